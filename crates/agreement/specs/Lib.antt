@@ -1,0 +1,4 @@
+pub mod Ring
+pub mod Calls
+pub mod Runs
+pub mod Counts
