@@ -1,2 +1,4 @@
 pub mod History
 pub mod Effects
+pub mod Posts
+pub mod Steps
