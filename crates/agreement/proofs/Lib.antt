@@ -2,3 +2,4 @@ pub mod History
 pub mod Effects
 pub mod Posts
 pub mod Steps
+pub mod Runs
