@@ -3,3 +3,5 @@ pub mod Effects
 pub mod Posts
 pub mod Steps
 pub mod Runs
+pub mod Begin
+pub mod Notes
