@@ -18,6 +18,7 @@ use Rattle.messages.proofs.Ranges.{Fields, in-range-fields, view-small, key-sma
 use Rattle.frames.specs.Frames.{word, unword, head, frame, frame-length, word-at, fields, is-frame, unframe, Frame-length, Reads-back, Writes-back}
 
 pub frame-length-stands : Frame-length
+unfolding frame
 frame-length-stands valid width m h =
     let f = in-range-fields valid width m h in
     let v = value-length valid width _ (m .value) (f .value-in) in
@@ -43,6 +44,7 @@ rebuilt m view key second previous x y a b c d e f =
 
 -- the fields of a frame are those of its message
 pub fields-frame : (valid : List ℕ → Bool) (width : ℕ) (m : Msg) → in-range valid width m ≡ true → fields width (frame m) ≡ m
+unfolding frame
 fields-frame valid width m h =
     let f = in-range-fields valid width m h in
     let view : word-at 4 (frame m) ≡ m .view = number-be 4 (m .view) (omega (arith, view-small (m .kind) (m .view) (f .view-in))) in
@@ -55,6 +57,7 @@ fields-frame valid width m h =
     rebuilt m (word-at 4 (frame m)) (word-at 8 (frame m)) (word-at 12 (frame m)) (unword (word-at 16 (frame m))) (take width (drop 20 (frame m))) (drop (20 + width) (frame m)) view key second previous value last
 
 pub reads-back : Reads-back
+unfolding frame unframe
 reads-back valid width m h =
     let e : fields width (frame m) ≡ m = fields-frame valid width m h in
     let l : length (frame m) ≡ frame-length width = frame-length-stands valid width m h in
@@ -97,6 +100,7 @@ rejoined width bs a b c d p q r s =
 
 -- the frame of the fields of bytes that are a frame
 pub frame-fields : (valid : List ℕ → Bool) (width : ℕ) (bs : List ℕ) → Under 256 bs → is-frame valid width bs ≡ true → frame (fields width bs) ≡ bs
+unfolding frame
 frame-fields valid width bs u t =
     let p = framed valid width bs t in
     let long : 20 ≤ length bs = omega arith in
@@ -108,6 +112,7 @@ frame-fields valid width bs u t =
     ap (λ w. getD bs 0 0 ∷ getD bs 1 0 ∷ getD bs 2 0 ∷ 0 ∷ w) tail ∙ (ap (λ z. getD bs 0 0 ∷ getD bs 1 0 ∷ getD bs 2 0 ∷ z ∷ drop 4 bs) (sym (p .1)) ∙ first-four bs (omega arith))
 
 pub writes-back : Writes-back
+unfolding unframe
 writes-back valid width bs m u e =
     let p = some-cond (is-frame valid width bs) (fields width bs) m e in
     sym (ap frame (p .1)) ∙ frame-fields valid width bs u (p .0)

@@ -31,7 +31,14 @@ fields-are width bs view key second word previous x y a b c d e f g = cc
 module _ (valid : List ℕ → Bool) (width : ℕ) where
   -- bytes that fail one test of a frame are none
   not-framed : (bs : List ℕ) → (is-frame valid width bs ≡ true → ⊥) → unframe valid width bs ≡ None
+  unfolding unframe
   not-framed bs n = elim (cases-bool (is-frame valid width bs)) [ inl t ↦ absurd (n t) | inr e ↦ cond-false (is-frame valid width bs) (Some (fields width bs)) None e ]
+
+  pub no-length : (bs : List ℕ) → (length bs ≡ frame-length width → ⊥) → unframe valid width bs ≡ None
+  no-length bs n = not-framed bs (λ t. n (framed valid width bs t .0))
+
+  pub no-zero : (bs : List ℕ) → (getD bs 3 0 ≡ 0 → ⊥) → unframe valid width bs ≡ None
+  no-zero bs n = not-framed bs (λ t. n (framed valid width bs t .1))
 
   pub no-value : (bs : List ℕ) → valid (take width (drop 20 bs)) ≡ false → unframe valid width bs ≡ None
   no-value bs h = not-framed bs (λ t. both-ways _ h (value-valid valid width _ (take width (drop 20 bs)) (in-range-fields valid width (fields width bs) (framed valid width bs t .2) .value-in)))
@@ -43,6 +50,7 @@ module _ (valid : List ℕ → Bool) (width : ℕ) where
   no-range bs m e h = not-framed bs (λ t. both-ways _ (ap (in-range valid width) e ∙ h) (framed valid width bs t .2))
 
   pub is-message : (bs : List ℕ) (m : Msg) → length bs ≡ frame-length width → getD bs 3 0 ≡ 0 → fields width bs ≡ m → in-range valid width m ≡ true → unframe valid width bs ≡ Some m
+  unfolding unframe
   is-message bs m l z e h = cond-true (is-frame valid width bs) (Some (fields width bs)) None (and-from _ _ (eq-eqb _ _ l) (and-from _ _ (eq-eqb _ _ z) (ap (in-range valid width) e ∙ h))) ∙ ap Some e
 
   -- the front of a buffer that a frame was written to reads as its message

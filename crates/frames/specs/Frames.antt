@@ -26,7 +26,7 @@ head m =
     m .kind ∷ m .from ∷ m .to ∷ 0 ∷
     (be 4 (m .view) ++ (be 4 (m .key) ++ (be 4 (m .second-key) ++ be 4 (word (m .previous)))))
 
-abbrev pub frame : Msg → List ℕ
+unfoldable pub frame : Msg → List ℕ
 frame m = head m ++ (m .value ++ m .second-value)
 
 -- how many bytes a frame has, for values of a width
@@ -41,8 +41,15 @@ word-at at bs = number 256 (take 4 (drop at bs))
 abbrev pub fields : ℕ → List ℕ → Msg
 fields width bs =
     record {
-      kind = getD bs 0 0; from = getD bs 1 0; to = getD bs 2 0; view = word-at 4 bs; key = word-at 8 bs; value = take width (drop 20 bs);
-      second-key = word-at 12 bs; second-value = drop (20 + width) bs; previous = unword (word-at 16 bs)
+      kind = getD bs 0 0;
+      from = getD bs 1 0;
+      to = getD bs 2 0;
+      view = word-at 4 bs;
+      key = word-at 8 bs;
+      value = take width (drop 20 bs);
+      second-key = word-at 12 bs;
+      second-value = drop (20 + width) bs;
+      previous = unword (word-at 16 bs);
     }
 
 module _ (valid : List ℕ → Bool) (width : ℕ) where
@@ -51,7 +58,7 @@ module _ (valid : List ℕ → Bool) (width : ℕ) where
   is-frame bs = eqb (length bs) (frame-length width) && (eqb (getD bs 3 0) 0 && in-range valid width (fields width bs))
 
   -- the message that bytes spell, if they are a frame
-  abbrev pub unframe : List ℕ → Option Msg
+  unfoldable pub unframe : List ℕ → Option Msg
   unframe bs = cond (is-frame bs) (Some (fields width bs)) None
 
 -- The laws of frames, for every kind of value.

@@ -56,8 +56,26 @@ fn header<V: Value>(m: &Message<V>) -> [u8; 20]
     let c = u32_bytes(m.second_key);
     let d = u32_bytes(word_of(m.previous));
     [
-        m.kind, m.from, m.to, 0, a[0], a[1], a[2], a[3], b[0], b[1], b[2], b[3], c[0], c[1], c[2],
-        c[3], d[0], d[1], d[2], d[3],
+        m.kind,
+        m.from,
+        m.to,
+        0,
+        a[0],
+        a[1],
+        a[2],
+        a[3],
+        b[0],
+        b[1],
+        b[2],
+        b[3],
+        c[0],
+        c[1],
+        c[2],
+        c[3],
+        d[0],
+        d[1],
+        d[2],
+        d[3],
     ]
 }
 
@@ -98,7 +116,10 @@ pub fn write_frame<V: Value>(m: &Message<V>, out: &mut [u8]) -> Result<usize, Fr
 pub fn read_frame<V: Value>(from: &[u8]) -> Result<Message<V>, FrameFault>
     ensures { λ r. ⌜ Cases r (λ m. (unframe valid width (now (from .entry)) ≡ Some (message bytes m)) × (frame (message bytes m) ≡ now (from .entry))) (λ e. (unframe valid width (now (from .entry)) ≡ None) × (e ≡ NotFrame)) ⌝ }
 {
-    if from.len() != frame_length::<V>() || from[3] != 0 {
+    if from.len() != frame_length::<V>() {
+        return Err(FrameFault::NotFrame);
+    }
+    if from[3] != 0 {
         return Err(FrameFault::NotFrame);
     }
     let second = HEAD + V::width_of();

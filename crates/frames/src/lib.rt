@@ -1,2 +1,2 @@
-pub mod fault;
 pub mod codec;
+pub mod fault;

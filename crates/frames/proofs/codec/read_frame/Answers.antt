@@ -10,8 +10,14 @@ use Rattle.messages.specs.Messages.{Msg}
 use Rattle.messages.specs.Meaning.{message}
 use Rattle.frames.specs.Frames.{fields}
 use Rattle.frames.proofs.Back.{writes-back}
-use Rattle.frames.proofs.Calls.{fields-are, no-value, no-second, no-range, is-message, first-part, second-part}
+use Rattle.frames.proofs.Calls.{fields-are, no-length, no-zero, no-value, no-second, no-range, is-message, first-part, second-part}
 use Rattle.frames.proofs.codec.read_frame.Needs as need
+
+pub returns-then-from-frame-length : need.returns-then-from-frame-length
+returns-then-from-frame-length g c = (no-length (g .V·Value .valid) (g .V·Value .width) (c .args .from .now) (λ e. omega (arith, c .frame-length .ensures)), refl)
+
+pub returns-then-from-ne0 : need.returns-then-from-ne0
+returns-then-from-ne0 g c = (no-zero (g .V·Value .valid) (g .V·Value .width) (c .args .from .now) (λ e. omega arith), refl)
 
 pub returns-in-rest : need.returns-in-rest
 returns-in-rest g c =

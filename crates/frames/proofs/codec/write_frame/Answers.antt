@@ -17,5 +17,5 @@ returns g c =
     record {
       answer = is-written (v .valid) (v .width) m out (c .frame-length-length .result) (c .frame-length-length .ensures) l h;
       after = c .write-frame-at .ensures ∙ is-after (v .valid) (v .width) m out l h;
-      back = λ _. ap (λ w. unframe (v .valid) (v .width) (take (frame-length (v .width)) w)) (c .write-frame-at .ensures) ∙ front-back (v .valid) (v .width) out m h
+      back = λ _. ap (λ w. unframe (v .valid) (v .width) (take (frame-length (v .width)) w)) (c .write-frame-at .ensures) ∙ front-back (v .valid) (v .width) out m h;
     }

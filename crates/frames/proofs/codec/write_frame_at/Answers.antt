@@ -5,11 +5,12 @@ use Prim.Native.Nat.{_+_, _*_}
 use lib.ListN.{length}
 use Rattle.values.specs.Bytes.{over}
 use Rattle.messages.specs.Meaning.{message}
-use Rattle.frames.specs.Frames.{head}
+use Rattle.frames.specs.Frames.{head, frame}
 use Rattle.frames.proofs.Calls.{three-writes}
 use Rattle.frames.proofs.codec.write_frame_at.Needs as need
 
 pub returns : need.returns
+unfolding frame
 returns g c =
     let v = g .V·Value in
     let m = message (v .bytes) (c .args .m .now) in
