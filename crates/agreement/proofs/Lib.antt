@@ -4,4 +4,5 @@ pub mod Posts
 pub mod Steps
 pub mod Runs
 pub mod Begin
+pub mod World
 pub mod Notes
