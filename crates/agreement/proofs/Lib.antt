@@ -6,3 +6,4 @@ pub mod Runs
 pub mod Begin
 pub mod World
 pub mod Notes
+pub mod Echoes

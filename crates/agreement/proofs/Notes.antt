@@ -85,13 +85,13 @@ module _ (g : Setting) (me : ℕ) (log : Log) (p : Party) (m : Msg) (q : Party) 
       }
 
   -- a field that stays, or moves up to the view
-  field-seen : (k : ℕ) → 6 ≤ k → k ≤ 9 → q .rec .field k .at ≤ q .rec .view
+  pub field-seen : (k : ℕ) → 6 ≤ k → k ≤ 9 → q .rec .field k .at ≤ q .rec .view
   field-seen k lo hi = let f = e .field k in let s = ok .seen k in let a = e .view in grind (arith, tells)
 
-  field-top : (k : ℕ) → 6 ≤ k → k ≤ 9 → 0 < q .rec .field k .at → note log (q .rec) .said k (q .rec .field k .at) ≡ Some (q .rec .field k .value)
+  pub field-top : (k : ℕ) → 6 ≤ k → k ≤ 9 → 0 < q .rec .field k .at → note log (q .rec) .said k (q .rec .field k .at) ≡ Some (q .rec .field k .value)
   field-top k lo hi pos = let f = e .field k in let s = ok .seen k in let t = ok .top k in let a = e .view in grind (arith, tells)
 
-  field-bound : (k v : ℕ) → 6 ≤ k → k ≤ 9 → q .rec .field k .at < v → note log (q .rec) .said k v ≡ None
+  pub field-bound : (k v : ℕ) → 6 ≤ k → k ≤ 9 → q .rec .field k .at < v → note log (q .rec) .said k v ≡ None
   field-bound k v lo hi lt = let f = e .field k in let s = ok .seen k in let t = ok .bound k v in let a = e .view in grind (arith, tells)
 
   -- a stage said now was not said before: its quorum stands in the rows
