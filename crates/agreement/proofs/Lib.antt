@@ -7,3 +7,4 @@ pub mod Begin
 pub mod World
 pub mod Notes
 pub mod Echoes
+pub mod Locks

@@ -25,8 +25,8 @@ pub record World : Type 0 where
   pub laws : Quorums (g .n) honest (quorum g) (voucher g)
 
 -- every member of some quorum is faulty or has said x
-abbrev pub Cert : World → (ℕ → Option (List ℕ)) → List ℕ → Type 0
-Cert w p x = quorum (w .g) (λ j. not (w .honest j) || is x (p j)) ≡ true
+pub record Cert (w : World) (p : ℕ → Option (List ℕ)) (x : List ℕ) : Type 0 where
+  pub holds : quorum (w .g) (λ j. not (w .honest j) || is x (p j)) ≡ true
 
 pub is-some : (x : List ℕ) (o : Option (List ℕ)) → is x o ≡ true → o ≡ Some x
 is-some x None e = absurd (let z : _≡_ {A = ℕ} 0 1 = grind arith in omega arith)
@@ -57,7 +57,7 @@ module _ (w : World) where
   -- two certificates share an honest party
   pub certs-share : (p q : ℕ → Option (List ℕ)) (x y : List ℕ) → Cert w p x → Cert w q y → (j : ℕ) × (w .honest j ≡ true) × (p j ≡ Some x) × (q j ≡ Some y)
   certs-share p q x y a b =
-      let s = quorums-meet (w .g .n) (w .honest) (quorum (w .g)) (voucher (w .g)) (w .laws) (λ j. not (w .honest j) || is x (p j)) (λ j. not (w .honest j) || is y (q j)) a b in
+      let s = quorums-meet (w .g .n) (w .honest) (quorum (w .g)) (voucher (w .g)) (w .laws) (λ j. not (w .honest j) || is x (p j)) (λ j. not (w .honest j) || is y (q j)) (a .holds) (b .holds) in
       let h = s .3 in
       let c = s .4 in
       let d = s .5 in
@@ -68,7 +68,7 @@ module _ (w : World) where
 
   -- a certificate grows with what is said
   pub cert-grows : (p q : ℕ → Option (List ℕ)) (x : List ℕ) → ((j : ℕ) → w .honest j ≡ true → (p j ≡ None) ⊎ (q j ≡ p j)) → Cert w p x → Cert w q x
-  cert-grows p q x s = w .laws .more-quorum (λ j. not (w .honest j) || is x (p j)) (λ j. not (w .honest j) || is x (q j)) (λ j _ _ h. grows (w .honest j) (p j) (q j) (s j) h)
+  cert-grows p q x s a = record { holds = w .laws .more-quorum (λ j. not (w .honest j) || is x (p j)) (λ j. not (w .honest j) || is x (q j)) (λ j _ _ h. grows (w .honest j) (p j) (q j) (s j) h) (a .holds) }
     where
       grows : (b : Bool) (o t : Option (List ℕ)) → (b ≡ true → (o ≡ None) ⊎ (t ≡ o)) → (not b || is x o) ≡ true → (not b || is x t) ≡ true
       grows false o t s h = refl
@@ -77,7 +77,7 @@ module _ (w : World) where
   -- a quorum of entries, each of which an honest party bears out
   pub cert-from : (p q : ℕ → Option (List ℕ)) (x : List ℕ) → ((j : ℕ) → 1 ≤ j → j ≤ w .g .n → w .honest j ≡ true → p j ≡ Some x → q j ≡ Some x) →
       quorum (w .g) (λ j. is x (p j)) ≡ true → Cert w q x
-  cert-from p q x s = w .laws .more-quorum (λ j. is x (p j)) (λ j. not (w .honest j) || is x (q j)) (λ j lo hi h. from (w .honest j) (p j) (q j) (s j lo hi) (is-some x (p j) h))
+  cert-from p q x s a = record { holds = w .laws .more-quorum (λ j. is x (p j)) (λ j. not (w .honest j) || is x (q j)) (λ j lo hi h. from (w .honest j) (p j) (q j) (s j lo hi) (is-some x (p j) h)) a }
     where
       from : (b : Bool) (o t : Option (List ℕ)) → (b ≡ true → o ≡ Some x → t ≡ Some x) → o ≡ Some x → (not b || is x t) ≡ true
       from false o t h e = refl
