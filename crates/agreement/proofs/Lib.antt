@@ -8,3 +8,5 @@ pub mod World
 pub mod Notes
 pub mod Echoes
 pub mod Locks
+pub mod Keys
+pub mod Fair
