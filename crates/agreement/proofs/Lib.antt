@@ -10,3 +10,4 @@ pub mod Echoes
 pub mod Locks
 pub mod Keys
 pub mod Fair
+pub mod Invariant

@@ -118,3 +118,10 @@ module _ (w : World) (said : ℕ → Log) (c : Core w said) where
 
   pub locked-allowed : (x : List ℕ) → Locked w said x → w .g .allows x ≡ true
   locked-allowed x a = let s = cert-has w _ x (a .1) in stage-allowed (s .0) 9 (a .0) x (omega arith) (omega arith) (s .1) (s .2)
+
+  pub said-allowed : (i k v : ℕ) (x : List ℕ) → 5 ≤ k → k ≤ 9 → w .honest i ≡ true → said i .said k v ≡ Some x → w .g .allows x ≡ true
+  said-allowed i k v x lo hi h e =
+      elim (cases-lt k 6) [
+        inl l ↦ c .echo i v x h (subst (λ n. said i .said n v ≡ Some x) (let q : k ≡ 5 = omega arith in q) e) .allowed
+      | inr l ↦ stage-allowed i k v x l hi h e
+      ]
