@@ -11,3 +11,5 @@ pub mod Locks
 pub mod Keys
 pub mod Fair
 pub mod Invariant
+pub mod Stepped
+pub mod Kept
