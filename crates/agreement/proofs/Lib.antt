@@ -13,3 +13,4 @@ pub mod Fair
 pub mod Invariant
 pub mod Stepped
 pub mod Kept
+pub mod Sound
