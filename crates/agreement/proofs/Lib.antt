@@ -14,3 +14,5 @@ pub mod Invariant
 pub mod Stepped
 pub mod Kept
 pub mod Sound
+pub mod Start
+pub mod Decided
