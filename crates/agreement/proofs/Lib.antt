@@ -16,3 +16,4 @@ pub mod Kept
 pub mod Sound
 pub mod Start
 pub mod Decided
+pub mod Upshot
