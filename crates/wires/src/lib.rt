@@ -1,2 +1,5 @@
 pub mod fault;
 pub mod wire;
+mod gap;
+pub mod range;
+pub mod table;
