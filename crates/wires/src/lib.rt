@@ -1,5 +1,4 @@
 pub mod fault;
 pub mod wire;
 mod gap;
-pub mod range;
 pub mod table;

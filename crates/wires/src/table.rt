@@ -10,7 +10,7 @@ ghost use Rattle.wires.specs.Wire.{fixed-request};
 ghost use Rattle.wires.specs.Table.{entry, entries};
 use crate::fault::WireFault;
 use crate::gap::close_gap;
-use crate::range::in_range;
+use messages::range::in_range;
 use crate::wire::Wire;
 use messages::message::Message;
 use values::value::Value;
@@ -72,7 +72,7 @@ fn take_entry<V: Value>(table: &mut [Message<V>], i: usize, count: usize) -> Mes
     m
 }
 
-pub impl<'a, V: Value> Wire<V> for TableWire<'a, V> as TableWireWire {
+pub impl<'a, V: Value> Wire<V> for TableWire<'a, V> as TableAsWire {
     ghost waiting = { λ t. entries (V·Value .valid) (V·Value .width) (V·Value .bytes) (t .count) (now (t .table)) };
 
     ghost capacity = { λ t. length (now (t .table)) };

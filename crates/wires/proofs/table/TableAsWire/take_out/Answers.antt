@@ -11,7 +11,8 @@ use Rattle.messages.specs.Messages.{Msg}
 use Rattle.wires.specs.Wire.{fixed-request}
 use Rattle.wires.specs.Table.{entry, entries}
 use Rattle.wires.proofs.Places.{length-front, looked-front, looked-past, taken-past, no-place, a-place, front-taken}
-use Rattle.wires.proofs.table.TableWireWire.take_out.Needs as need
+use Rattle.wires.proofs.Ranges.{entry-ranged}
+use Rattle.wires.proofs.table.TableAsWire.take_out.Needs as need
 
 pub returns-then-i-count : need.returns-then-i-count
 returns-then-i-count g c =
@@ -20,7 +21,7 @@ returns-then-i-count g c =
     let n = c .args .self .now .count in
     let xs = entries (v .valid) (v .width) (v .bytes) n t in
     let past : length xs ≤ c .args .i = omega (arith, length-front (entry (v .valid) (v .width) (v .bytes)) t n, c .min-count .ensures, c .if-i-count .taken) in
-    record { kept = refl; test = no-place xs (c .args .i) past; value = looked-past xs (c .args .i) past; after = taken-past xs (c .args .i) past }
+    record { kept = refl; test = no-place xs (c .args .i) past; value = looked-past xs (c .args .i) past; ranged = tt; after = taken-past xs (c .args .i) past }
 
 pub returns : need.returns
 returns g c =
@@ -40,5 +41,6 @@ returns g c =
       kept = ap length (c .take-entry-m .ensures .after) ∙ length-paste t i (drop (i + 1) t) (count - (i + 1)) within enough;
       test = a-place xs i here;
       value = looked-front f t n i (fixed-request (v .width)) (message (v .bytes) (c .take-entry-m .result)) (omega (arith, e, h)) (omega (arith, e, h)) (c .take-entry-m .ensures .value);
+      ranged = entry-ranged (v .valid) (v .width) (g .V·Value·met .«blank_valid») (v .bytes) t i (message (v .bytes) (c .take-entry-m .result)) (c .take-entry-m .ensures .value);
       after = ap (entries (v .valid) (v .width) (v .bytes) (count - 1)) (c .take-entry-m .ensures .after) ∙ front-taken f t n count i e h
     }

@@ -12,7 +12,7 @@ use Rattle.messages.specs.Messages.{Msg}
 use Rattle.wires.specs.Wire.{fixed-request}
 use Rattle.wires.specs.Table.{entry, entries}
 use Rattle.wires.proofs.Places.{length-front, front-more, full-test, full-answer, full-after, free-test, free-answer, free-after}
-use Rattle.wires.proofs.table.TableWireWire.post.Needs as need
+use Rattle.wires.proofs.table.TableAsWire.post.Needs as need
 
 pub returns-then-count-self : need.returns-then-count-self
 returns-then-count-self g c =

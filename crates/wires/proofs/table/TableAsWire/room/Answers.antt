@@ -1,7 +1,7 @@
 use borrow.Author.Needs.{needs}
 use native.Mathlib.Omega.{arith}
 use Rattle.wires.proofs.Places.{length-front}
-use Rattle.wires.proofs.table.TableWireWire.room.Needs as need
+use Rattle.wires.proofs.table.TableAsWire.room.Needs as need
 
 pub returns : need.returns
 returns g c = search (needs, length-front)

@@ -1,7 +1,0 @@
-use borrow.Author.Needs.{needs}
-use native.Mathlib.Omega.{arith}
-use Rattle.wires.proofs.Places.{length-front}
-use Rattle.wires.proofs.table.TableWireWire.count.Needs as need
-
-pub returns : need.returns
-returns g c = search (needs, length-front)
