@@ -1,4 +1,5 @@
 pub mod fault;
 pub mod wire;
-mod gap;
+pub mod fixed;
+pub mod gap;
 pub mod table;

@@ -9,6 +9,7 @@ ghost use Rattle.messages.specs.Meaning.{message};
 ghost use Rattle.wires.specs.Wire.{fixed-request};
 ghost use Rattle.wires.specs.Table.{entry, entries};
 use crate::fault::WireFault;
+use crate::fixed::fixed_request;
 use crate::gap::close_gap;
 use messages::range::in_range;
 use crate::wire::Wire;
@@ -33,13 +34,6 @@ impl<'a, V: Value> TableWire<'a, V> {
     }
 }
 
-// The request that an entry out of range means.
-fn fixed<V: Value>() -> Message<V>
-    ensures { λ r. ⌜ message bytes r ≡ fixed-request width ⌝ }
-{
-    Message { kind: 1, from: 1, to: 1, view: 1, key: 0, value: V::blank(), second_key: 0, second_value: V::blank(), previous: Some(0) }
-}
-
 // What one entry of a table means.
 fn entry_at<V: Value>(table: &[Message<V>], i: usize) -> Message<V>
     requires { ⌜ i < length (now table) ⌝ }
@@ -49,7 +43,7 @@ fn entry_at<V: Value>(table: &[Message<V>], i: usize) -> Message<V>
     if in_range(&m) {
         m
     } else {
-        fixed()
+        fixed_request()
     }
 }
 

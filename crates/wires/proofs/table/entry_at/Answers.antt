@@ -23,4 +23,4 @@ pub returns-else-in-range : need.returns-else-in-range
 returns-else-in-range g c =
     let v = g .V·Value in
     let m = message (v .bytes) (c .index-table-i .result) in
-    getD-entry (entry (v .valid) (v .width) (v .bytes)) (c .args .table .now) (c .args .i) (c .index-table-i .result) (fixed-request (v .width)) (message (v .bytes) (c .fixed .result)) (c .pre) (c .index-table-i .is) (c .fixed .ensures ∙ ap (λ b. cond b m (fixed-request (v .width))) (c .if-in-range .ensures tt))
+    getD-entry (entry (v .valid) (v .width) (v .bytes)) (c .args .table .now) (c .args .i) (c .index-table-i .result) (fixed-request (v .width)) (message (v .bytes) (c .fixed-request .result)) (c .pre) (c .index-table-i .is) (c .fixed-request .ensures ∙ ap (λ b. cond b m (fixed-request (v .width))) (c .if-in-range .ensures tt))
