@@ -1,17 +1,16 @@
 -- The message at a place, a list without it, and a list made entry by entry.
 use mathlib.Core.Path.{_≡_, refl, sym, ap, _∙_}
-use mathlib.Core.Bool.{Bool, true, false, cond, _&&_}
+use mathlib.Core.Bool.{Bool, true, false, cond}
 use mathlib.Core.List.{List, [], _∷_, _++_, map}
 use Prim.Native.Nat.{ℕ, zero, suc, _+_, _-_, _≤_, _<_, min}
 use mathlib.Core.Logic.{⊎-elim}
 use native.Mathlib.Omega.{arith}
-use lib.Dec.{ltb, eqb}
-use lib.ListN.{length, getD, take, drop, set, replicate}
+use lib.Dec.{ltb}
+use lib.ListN.{length, getD, take, drop, set}
 use lib.Seq.{paste}
-use Rattle.std.proofs.shelf.Lists.{length-map, length-take, length-take-le, length-drop, take-more-set, map-push, take-map, drop-map, drop-take, getD-take, getD-map, take-take, take-all, map-append}
-use Rattle.std.proofs.shelf.Edits.{take-paste, length-paste}
-use Rattle.std.proofs.shelf.Tests.{and-right, and-from, lt-ltb, le-ltb, cases-lt, cases-bool}
-use Rattle.std.specs.declared.result.Result.{Result}
+use Rattle.std.proofs.shelf.Lists.{length-map, length-take, length-drop, take-more-set, map-push, take-map, drop-map, drop-take, getD-take, getD-map, take-take, take-all, map-append}
+use Rattle.std.proofs.shelf.Edits.{take-paste}
+use Rattle.std.proofs.shelf.Tests.{and-right, and-from, lt-ltb, le-ltb, cases-lt}
 use Rattle.std.specs.declared.result.Result.the-variants.{Ok, Err}
 use Rattle.messages.specs.Messages.{Msg, in-range}
 use Rattle.wires.specs.Wire.{looked, taken, room-left, has-place, may-post, post-answer, posted}
@@ -53,8 +52,8 @@ module _ {A : Type 0} (f : A → Msg) (table : List A) where
 
   pub looked-front : (n i : ℕ) (d m : Msg) → i < n → i < length table → m ≡ getD (map f table) i d → Ok m ≡ looked (map f (take n table)) i
   looked-front n i d m h k e =
-    let l : i < length (map f (take n table)) = omega (arith, length-front n) in
-    ap Ok (e ∙ getD-front n i d h) ∙ sym (looked-at (map f (take n table)) i d l)
+      let l : i < length (map f (take n table)) = omega (arith, length-front n) in
+      ap Ok (e ∙ getD-front n i d h) ∙ sym (looked-at (map f (take n table)) i d l)
 
   take-min : (n : ℕ) → take (min n (length table)) table ≡ take n table
   take-min n = ⊎-elim (λ h. ap (λ j. take j table) (min-left n (length table) (omega arith))) (λ h. ap (λ j. take j table) (min-right n (length table) h) ∙ (take-all (length table) table (omega arith) ∙ sym (take-all n table h))) (cases-lt n (length table))
@@ -67,22 +66,22 @@ module _ {A : Type 0} (f : A → Msg) (table : List A) where
   front-more n y h = ap (map f) (take-more-set table n y h) ∙ map-push f (take n table) y
 
   pub front-taken : (n count i : ℕ) → count ≡ min n (length table) → i < count →
-    map f (take (count - 1) (paste table i (drop (i + 1) table) (count - (i + 1)))) ≡ taken (map f (take n table)) i
+      map f (take (count - 1) (paste table i (drop (i + 1) table) (count - (i + 1)))) ≡ taken (map f (take n table)) i
   front-taken n count i e h =
-    let k : ℕ = count - (i + 1) in
-    let ik : i + k ≡ count - 1 = omega arith in
-    let within : i + 1 + k ≤ length table = omega arith in
-    let ld : k ≤ length (drop (i + 1) table) = omega (arith, length-drop (i + 1) table) in
-    let left : map f (take (count - 1) (paste table i (drop (i + 1) table) k)) ≡ map f (take i table) ++ map f (take k (drop (i + 1) table)) =
+      let k : ℕ = count - (i + 1) in
+      let ik : i + k ≡ count - 1 = omega arith in
+      let within : i + 1 + k ≤ length table = omega arith in
+      let ld : k ≤ length (drop (i + 1) table) = omega (arith, length-drop (i + 1) table) in
+      let left : map f (take (count - 1) (paste table i (drop (i + 1) table) k)) ≡ map f (take i table) ++ map f (take k (drop (i + 1) table)) =
       ap (λ j. map f (take j (paste table i (drop (i + 1) table) k))) (sym ik) ∙ (ap (map f) (take-paste table i (drop (i + 1) table) k (omega arith) ld) ∙ map-append f (take i table) (take k (drop (i + 1) table))) in
-    let whole : take count table ≡ take n table = ap (λ j. take j table) e ∙ take-min n in
-    let size : (i + 1) + k ≡ count = omega arith in
-    let next : suc i ≡ i + 1 = omega arith in
-    let right : take i (map f (take n table)) ≡ map f (take i table) =
+      let whole : take count table ≡ take n table = ap (λ j. take j table) e ∙ take-min n in
+      let size : (i + 1) + k ≡ count = omega arith in
+      let next : suc i ≡ i + 1 = omega arith in
+      let right : take i (map f (take n table)) ≡ map f (take i table) =
       take-map f i (take n table) ∙ ap (map f) (take-take i n table (omega arith)) in
-    let rest : drop (suc i) (map f (take n table)) ≡ map f (take k (drop (i + 1) table)) =
+      let rest : drop (suc i) (map f (take n table)) ≡ map f (take k (drop (i + 1) table)) =
       drop-map f (suc i) (take n table) ∙ ap (map f) (ap (drop (suc i)) (sym whole) ∙ (ap (λ j. drop j (take count table)) next ∙ (ap (λ j. drop (i + 1) (take j table)) (sym size) ∙ drop-take (i + 1) k table))) in
-    left ∙ sym (taken-is (map f (take n table)) i ∙ (ap (λ ys. ys ++ drop (suc i) (map f (take n table))) right ∙ ap (λ ys. map f (take i table) ++ ys) rest))
+      left ∙ sym (taken-is (map f (take n table)) i ∙ (ap (λ ys. ys ++ drop (suc i) (map f (take n table))) right ∙ ap (λ ys. map f (take i table) ++ ys) rest))
 
 -- whether there is a message at a place
 pub no-place : (xs : List Msg) (i : ℕ) → length xs ≤ i → false ≡ has-place xs i

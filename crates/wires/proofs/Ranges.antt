@@ -1,15 +1,13 @@
 -- Every waiting message is in range.
-use mathlib.Core.Path.{_≡_, refl, sym, ap, _∙_}
-use mathlib.Core.Bool.{Bool, true, false, cond, _&&_}
-use mathlib.Core.List.{List, [], _∷_, _++_, map}
+use mathlib.Core.Path.{_≡_, ap, _∙_}
+use mathlib.Core.Bool.{Bool, true, false, cond}
+use mathlib.Core.List.{List, [], _∷_, map}
 use mathlib.Core.Logic.{⊎-elim}
 use Prim.Native.Nat.{ℕ, zero, suc}
-use lib.Dec.{eqb}
-use lib.ListN.{length, getD, replicate, take}
+use lib.ListN.{getD, replicate, take}
 use Rattle.std.proofs.shelf.Lists.{length-replicate}
 use Rattle.std.proofs.shelf.Tests.{and-from, eq-eqb, cases-bool}
 use Rattle.std.specs.shelf.Lists.{All}
-use Rattle.values.specs.Same.{equal}
 use Rattle.values.proofs.Same.{equal-self}
 use Rattle.messages.specs.Messages.{Msg, in-range, value-fits}
 use Rattle.messages.specs.Meaning.{message}
@@ -26,8 +24,8 @@ module _ (valid : List ℕ → Bool) (width : ℕ) (blank : valid (replicate wid
 
   pub as-ranged-ranged : (m : Msg) → in-range valid width (as-ranged valid width m) ≡ true
   as-ranged-ranged m =
-    ⊎-elim (λ h. ap (λ b. in-range valid width (cond b m (fixed-request width))) h ∙ h)
-    (λ h. ap (λ b. in-range valid width (cond b m (fixed-request width))) h ∙ fixed-ranged) (cases-bool (in-range valid width m))
+      ⊎-elim (λ h. ap (λ b. in-range valid width (cond b m (fixed-request width))) h ∙ h)
+      (λ h. ap (λ b. in-range valid width (cond b m (fixed-request width))) h ∙ fixed-ranged) (cases-bool (in-range valid width m))
 
   -- a list of messages made one by one, each in range
   pub all-made : {A : Type 0} (f : A → Msg) → ((x : A) → in-range valid width (f x) ≡ true) → (xs : List A) → All (λ m. in-range valid width m ≡ true) (map f xs)

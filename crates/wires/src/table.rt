@@ -11,9 +11,9 @@ ghost use Rattle.wires.specs.Table.{entry, entries};
 use crate::fault::WireFault;
 use crate::fixed::fixed_request;
 use crate::gap::close_gap;
-use messages::range::in_range;
 use crate::wire::Wire;
 use messages::message::Message;
+use messages::range::in_range;
 use values::value::Value;
 
 // The first `count` entries of the table wait. An entry out of range, which no call leaves,
@@ -40,11 +40,7 @@ fn entry_at<V: Value>(table: &[Message<V>], i: usize) -> Message<V>
     ensures { λ r. ⌜ message bytes r ≡ getD (map (entry valid width bytes) (now (table .entry))) i (fixed-request width) ⌝ }
 {
     let m = table[i];
-    if in_range(&m) {
-        m
-    } else {
-        fixed_request()
-    }
+    if in_range(&m) { m } else { fixed_request() }
 }
 
 // Writes one entry of a table.

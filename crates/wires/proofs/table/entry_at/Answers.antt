@@ -1,15 +1,8 @@
-use borrow.Author.Needs.{needs}
-use native.Mathlib.Omega.{arith}
-use mathlib.Core.Path.{_≡_, refl, sym, ap, _∙_}
-use mathlib.Core.Bool.{Bool, cond}
-use Prim.Native.Nat.{_≤_, _<_, _+_, min}
-use lib.ListN.{length}
-use Rattle.std.proofs.shelf.Lists.{length-set, length-drop}
-use Rattle.std.proofs.shelf.Edits.{length-paste}
+use mathlib.Core.Path.{ap, _∙_}
+use mathlib.Core.Bool.{cond}
 use Rattle.messages.specs.Meaning.{message}
-use Rattle.messages.specs.Messages.{Msg}
 use Rattle.wires.specs.Wire.{fixed-request}
-use Rattle.wires.specs.Table.{entry, entries}
+use Rattle.wires.specs.Table.{entry}
 use Rattle.wires.proofs.Places.{getD-entry}
 use Rattle.wires.proofs.table.entry_at.Needs as need
 

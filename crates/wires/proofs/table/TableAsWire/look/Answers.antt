@@ -1,11 +1,5 @@
 use borrow.Author.Needs.{needs}
-use native.Mathlib.Omega.{arith}
-use mathlib.Core.Path.{_≡_, refl, sym, ap, _∙_}
-use Prim.Native.Nat.{_≤_, _<_}
-use lib.ListN.{length}
 use Rattle.messages.specs.Meaning.{message}
-use Rattle.wires.specs.Wire.{fixed-request}
-use Rattle.wires.specs.Table.{entry, entries}
 use Rattle.wires.proofs.Places.{length-front, looked-front, looked-past, no-place, a-place}
 use Rattle.wires.proofs.Ranges.{entry-ranged}
 use Rattle.wires.proofs.table.TableAsWire.look.Needs as need

@@ -1,14 +1,11 @@
-use borrow.Author.Needs.{needs}
 use native.Mathlib.Omega.{arith}
 use mathlib.Core.Path.{_≡_, refl, sym, ap, _∙_}
-use mathlib.Core.Bool.{Bool, cond}
+use mathlib.Core.Bool.{cond}
 use mathlib.Core.List.{[], _∷_, _++_}
-use Prim.Native.Nat.{_≤_, _<_, _+_, min}
+use Prim.Native.Nat.{_≤_, _<_, _+_}
 use lib.ListN.{length}
-use Rattle.std.proofs.shelf.Lists.{length-set, length-drop}
-use Rattle.std.proofs.shelf.Edits.{length-paste}
+use Rattle.std.proofs.shelf.Lists.{length-set}
 use Rattle.messages.specs.Meaning.{message}
-use Rattle.messages.specs.Messages.{Msg}
 use Rattle.wires.specs.Wire.{fixed-request}
 use Rattle.wires.specs.Table.{entry, entries}
 use Rattle.wires.proofs.Places.{length-front, front-more, full-test, full-answer, full-after, free-test, free-answer, free-after}
@@ -40,5 +37,5 @@ returns g c =
       kept = ap length (c .put-entry .ensures) ∙ length-set t n (c .args .m .now);
       test = free-test (v .valid) (v .width) (length t) xs m ok free;
       value = free-answer (v .valid) (v .width) (length t) xs m ok free;
-      after = ap (entries (v .valid) (v .width) (v .bytes) (n + 1)) (c .put-entry .ensures) ∙ (front-more f t n (c .args .m .now) (c .if-count-self .left) ∙ (ap (λ x. xs ++ x ∷ []) own ∙ free-after (v .valid) (v .width) (length t) xs m ok free))
+      after = ap (entries (v .valid) (v .width) (v .bytes) (n + 1)) (c .put-entry .ensures) ∙ (front-more f t n (c .args .m .now) (c .if-count-self .left) ∙ (ap (λ x. xs ++ x ∷ []) own ∙ free-after (v .valid) (v .width) (length t) xs m ok free));
     }

@@ -1,5 +1,4 @@
 use borrow.Author.Needs.{needs}
-use native.Mathlib.Omega.{arith}
 use Rattle.wires.proofs.Places.{length-front}
 use Rattle.wires.proofs.table.TableAsWire.room.Needs as need
 

@@ -1,13 +1,10 @@
-use borrow.Author.Needs.{needs}
 use native.Mathlib.Omega.{arith}
-use mathlib.Core.Path.{_≡_, refl, sym, ap, _∙_}
-use mathlib.Core.Bool.{Bool, cond}
-use Prim.Native.Nat.{_≤_, _<_, _+_, _-_, min}
+use mathlib.Core.Path.{refl, ap, _∙_}
+use Prim.Native.Nat.{_≤_, _<_, _+_, _-_}
 use lib.ListN.{length, drop}
-use Rattle.std.proofs.shelf.Lists.{length-set, length-drop}
+use Rattle.std.proofs.shelf.Lists.{length-drop}
 use Rattle.std.proofs.shelf.Edits.{length-paste}
 use Rattle.messages.specs.Meaning.{message}
-use Rattle.messages.specs.Messages.{Msg}
 use Rattle.wires.specs.Wire.{fixed-request}
 use Rattle.wires.specs.Table.{entry, entries}
 use Rattle.wires.proofs.Places.{length-front, looked-front, looked-past, taken-past, no-place, a-place, front-taken}
@@ -42,5 +39,5 @@ returns g c =
       test = a-place xs i here;
       value = looked-front f t n i (fixed-request (v .width)) (message (v .bytes) (c .take-entry-m .result)) (omega (arith, e, h)) (omega (arith, e, h)) (c .take-entry-m .ensures .value);
       ranged = entry-ranged (v .valid) (v .width) (g .V·Value·met .«blank_valid») (v .bytes) t i (message (v .bytes) (c .take-entry-m .result)) (c .take-entry-m .ensures .value);
-      after = ap (entries (v .valid) (v .width) (v .bytes) (count - 1)) (c .take-entry-m .ensures .after) ∙ front-taken f t n count i e h
+      after = ap (entries (v .valid) (v .width) (v .bytes) (count - 1)) (c .take-entry-m .ensures .after) ∙ front-taken f t n count i e h;
     }
