@@ -1,7 +1,8 @@
 // A wire over a lent buffer of frames.
 ghost use mathlib.Core.Path.{_≡_};
-ghost use mathlib.Core.List.{[]};
-ghost use Prim.Native.Nat.{_*_, _/_, _<_, _≤_};
+ghost use mathlib.Core.List.{List, []};
+ghost use mathlib.Core.Bool.{Bool};
+ghost use Prim.Native.Nat.{ℕ, _*_, _/_, _<_, _≤_};
 ghost use denote.Ref.{now};
 ghost use Rattle.values.specs.Bytes.{over};
 ghost use Rattle.messages.specs.Meaning.{message};
@@ -12,7 +13,6 @@ use frames::codec::read_frame;
 use frames::codec::write_frame_at;
 use messages::message::Message;
 use messages::range::in_range;
-use std::marker::PhantomData;
 use values::value::Value;
 use wires::fault::WireFault;
 use wires::fixed::fixed_request;
@@ -22,23 +22,18 @@ use wires::wire::Wire;
 // The first `count` places of the buffer wait, a frame each. Bytes that are no frame, which no
 // call leaves, mean one fixed request.
 #[derive(Drop)]
-pub struct FrameWire<'a, V> {
+pub struct FrameWire<'a> {
     buffer: &'a mut [u8],
     count: usize,
-    kind: PhantomData<V>,
 }
 
-impl<'a, V: Value> FrameWire<'a, V> {
+impl<'a> FrameWire<'a> {
     // An empty wire whose capacity is how many frames fit whole into the buffer.
-    pub fn new(buffer: &'a mut [u8]) -> FrameWire<'a, V>
-        ensures empty { λ r. ⌜ frames-in valid width (r .count) (now (r .buffer)) ≡ [] ⌝ }
-        ensures size { λ r. ⌜ places width (now (r .buffer)) ≡ places width (now (buffer .entry)) ⌝ }
+    pub fn new(buffer: &'a mut [u8]) -> FrameWire<'a>
+        ensures empty { λ r. ⌜ ((valid : List ℕ → Bool) (width : ℕ) → frames-in valid width (r .count) (now (r .buffer)) ≡ []) ⌝ }
+        ensures size { λ r. ⌜ ((width : ℕ) → places width (now (r .buffer)) ≡ places width (now (buffer .entry))) ⌝ }
     {
-        FrameWire {
-            buffer,
-            count: 0,
-            kind: PhantomData,
-        }
+        FrameWire { buffer, count: 0 }
     }
 }
 
@@ -91,7 +86,7 @@ fn take_slot<V: Value>(buffer: &mut [u8], i: usize, count: usize) -> Message<V>
     m
 }
 
-pub impl<'a, V: Value> Wire<V> for FrameWire<'a, V> as FramesAsWire {
+pub impl<'a, V: Value> Wire<V> for FrameWire<'a> as FramesAsWire {
     ghost waiting = { λ t. frames-in (V·Value .valid) (V·Value .width) (t .count) (now (t .buffer)) };
 
     ghost capacity = { λ t. places (V·Value .width) (now (t .buffer)) };
