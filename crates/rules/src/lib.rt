@@ -1,1 +1,2 @@
 pub mod thresholds;
+pub mod figures;
