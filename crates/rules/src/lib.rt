@@ -1,2 +1,3 @@
 pub mod thresholds;
 pub mod figures;
+pub mod facts;
