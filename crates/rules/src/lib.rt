@@ -1,1 +1,3 @@
-pub fn nothing() -> u8 { 0 }
+pub mod facts;
+pub mod figures;
+pub mod thresholds;
