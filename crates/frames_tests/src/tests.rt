@@ -4,10 +4,12 @@ use crate::order_cases;
 use frames::codec::frame_length;
 use frames::codec::read_frame;
 use frames::codec::write_frame;
+use frames::fault::FrameFaultDebug;
 use messages::message::Message;
 use std::test::*;
 use values::block::Block;
 use values::block::BlockValue;
+use values::bytes::put;
 use values::order::Order;
 use values::order::OrderValue;
 use values::rate::Rate;
@@ -61,7 +63,7 @@ fn good<V: Value>(c: &Case) -> Result<(), Fail> {
     let n = write_frame(&m, &mut out)?;
     check_eq(n, frame_length::<V>())?;
     check(n <= 60)?;
-    check(out[..n] == *c.frame)?;
+    check(&out[..n] == c.frame)?;
     for b in &out[n..] {
         check_eq(*b, 170)?;
     }
@@ -81,7 +83,7 @@ fn settled<V: Value>(bytes: &[u8]) -> Result<bool, Fail> {
             let mut out = [0u8; 60];
             let n = write_frame(&m, &mut out)?;
             check(n <= 60)?;
-            check(out[..n] == *bytes)?;
+            check(&out[..n] == bytes)?;
             Ok(true)
         }
     }
@@ -104,12 +106,11 @@ fn kept<V: Value>(frame: &mut [u8]) -> Result<usize, Fail> {
 }
 
 // Each single-byte change of a frame is refused or spells another message, as in the table.
-fn damaged<V: Value>(c: &Case) -> Result<(), Fail> {
+fn damaged<V: Value>(c: &Case, buffer: &mut [u8]) -> Result<(), Fail> {
     let n = c.frame.len();
-    check(n <= 60)?;
-    let mut copy = [0u8; 60];
-    copy[..n].copy_from_slice(c.frame);
-    check_eq(kept::<V>(&mut copy[..n])?, c.kept)
+    check(n <= buffer.len())?;
+    put(buffer, 0, c.frame);
+    check_eq(kept::<V>(&mut buffer[..n])?, c.kept)
 }
 
 // A message out of range is refused with 6, the buffer untouched; its bytes are no frame.
@@ -165,7 +166,8 @@ fn order_frames() -> Result<(), Fail> {
 #[test]
 fn block_damage() -> Result<(), Fail> {
     for c in &block_cases::GOOD {
-        damaged::<Block>(c)?;
+        let mut buffer = [0u8; 60];
+        damaged::<Block>(c, &mut buffer)?;
     }
     Ok(())
 }
@@ -173,7 +175,8 @@ fn block_damage() -> Result<(), Fail> {
 #[test]
 fn order_damage() -> Result<(), Fail> {
     for c in &order_cases::GOOD {
-        damaged::<Order>(c)?;
+        let mut buffer = [0u8; 60];
+        damaged::<Order>(c, &mut buffer)?;
     }
     Ok(())
 }
@@ -207,7 +210,9 @@ fn short_before_range() -> Result<(), Fail> {
 // The proof of pace 600 from 1 to 4 in view 3, byte for byte.
 #[test]
 fn pace_proof() -> Result<(), Fail> {
-    let rate = Rate::new(600).ok_or("no rate")?;
+    let Some(rate) = Rate::new(600) else {
+        return Err(Fail::new("no rate"));
+    };
     let m = Message {
         kind: 3,
         from: 1,
@@ -304,6 +309,8 @@ fn allowed_values() -> Result<(), Fail> {
     )?;
     check(Order::Hold.allowed() && Order::Resume.allowed() && !Order::Blank.allowed())?;
     check(Rate::new(0).is_none() && Rate::new(601).is_none())?;
-    let rate = Rate::new(1).ok_or("no rate")?;
+    let Some(rate) = Rate::new(1) else {
+        return Err(Fail::new("no rate"));
+    };
     check(Order::Pace(rate).allowed())
 }
