@@ -23,8 +23,15 @@ pace n = 3 ∷ be 2 n
 abbrev pub pace-proof : Msg
 pace-proof =
     record {
-      kind = 3; from = 1; to = 4; view = 3; key = 0; value = pace 600;
-      second-key = 0; second-value = replicate 3 0; previous = None
+      kind = 3;
+      from = 1;
+      to = 4;
+      view = 3;
+      key = 0;
+      value = pace 600;
+      second-key = 0;
+      second-value = replicate 3 0;
+      previous = None;
     }
 
 -- its bytes

@@ -29,7 +29,20 @@ fn encode(b: &Block) -> [u8; 14]
     let n = u32_bytes(b.count);
     let p = u16_bytes(b.party);
     [
-        a[0], a[1], a[2], a[3], a[4], a[5], a[6], a[7], n[0], n[1], n[2], n[3], p[0], p[1],
+        a[0],
+        a[1],
+        a[2],
+        a[3],
+        a[4],
+        a[5],
+        a[6],
+        a[7],
+        n[0],
+        n[1],
+        n[2],
+        n[3],
+        p[0],
+        p[1],
     ]
 }
 

@@ -48,7 +48,7 @@ pub impl Value for Order as OrderValue {
     }
 
     fn blank() -> Order {
-        Order::Blank
+        Self::Blank
     }
 
     fn same(&self, other: &Order) -> bool {

@@ -13,5 +13,5 @@ returns c =
       pace-601-bytes = refl;
       proof-in-range = refl;
       proof-frame = refl;
-      proof-read = refl
+      proof-read = refl;
     }
