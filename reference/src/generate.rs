@@ -158,10 +158,10 @@ impl<V: Value> Draft<'_, V> {
             return;
         }
         for _ in 0..self.random.below(4) {
-            if self.random.chance(60) {
-                self.failing_view();
-            } else {
-                self.stretch();
+            match self.random.below(20) {
+                0 | 1 => self.hoard(),
+                2..8 => self.stretch(),
+                _ => self.failing_view(),
             }
         }
         if self.random.chance(80) {
@@ -282,6 +282,32 @@ impl<V: Value> Draft<'_, V> {
                 return;
             }
         }
+    }
+
+    /// Steps every message once without taking it out, through some views that fail, until
+    /// the wire is too full for a step or everyone has decided.
+    fn hoard(&mut self) {
+        let last_kind = self.random.below(4) as i64 + 7;
+        let mut place = 0;
+        for _ in 0..12 {
+            while let Some(message) = self.look(place) {
+                let kind = message.content.kind();
+                let skipped = kind > last_kind && kind != 11;
+                if !skipped && !self.call(Call::Repeat(place)) {
+                    return;
+                }
+                place += 1;
+            }
+            for party in 1..=self.parties() {
+                if self.state(party) == Some(State::Open) && !self.call(Call::Timer(party)) {
+                    return;
+                }
+            }
+        }
+    }
+
+    fn look(&self, place: u64) -> Option<Message<V>> {
+        self.ring.as_ref()?.wire().look(place).ok()
     }
 
     fn place_of(&self, wanted: &dyn Fn(&Message<V>) -> bool) -> Option<u64> {
