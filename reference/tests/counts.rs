@@ -284,7 +284,7 @@ impl Shift {
 #[test]
 fn the_three_counts_hold_against_liars() {
     let (mut waited, mut opened) = (0, 0);
-    for seed in 0..300 {
+    for seed in 0..600 {
         let mut shift = Shift::new(seed);
         shift.run();
         waited += u64::from(shift.waited);
