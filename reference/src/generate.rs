@@ -254,7 +254,7 @@ impl<V: Value> Draft<'_, V> {
     /// the view fail: keys and locks are left behind at part of the ring.
     fn failing_view(&mut self) {
         let last_kind = self.random.below(7) as i64 + 4;
-        let listeners = self.random.next() | self.random.next();
+        let listeners = self.random.draw() | self.random.draw();
         let hears = |message: &Message<V>| {
             message.content.kind() < last_kind
                 || (message.content.kind() == last_kind && listeners >> message.to & 1 == 1)

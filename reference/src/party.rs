@@ -93,8 +93,7 @@ pub struct Party<V> {
 pub fn opens_lock<V: Value>(proof: &Proof<V>, lock: &Mark<V>, view: i64) -> bool {
     let sound = proof.previous1 < proof.key1 && proof.key1 < view;
     sound
-        && (lock.view <= proof.previous1
-            || (lock.view <= proof.key1 && proof.value1 != lock.value))
+        && (lock.view <= proof.previous1 || (lock.view <= proof.key1 && proof.value1 != lock.value))
 }
 
 /// A suggest bears out a key3 if its party has since sent a key2 for that value, or two
@@ -211,10 +210,10 @@ impl<V: Value> Party<V> {
             Content::Proof { proof, .. } if current => {
                 self.memory.proofs.entry(from).or_insert(proof);
             }
-            Content::Propose { key, value, .. } if current && from == primary => {
-                if self.memory.proposal == Proposal::None {
-                    self.judge(key, value);
-                }
+            Content::Propose { key, value, .. }
+                if current && from == primary && self.memory.proposal == Proposal::None =>
+            {
+                self.judge(key, value);
             }
             Content::Vote { round, value, .. } if current => {
                 self.memory.votes.entry((round, from)).or_insert(value);

@@ -192,9 +192,5 @@ impl<V: Value> Ring<V> {
 /// n from 1 to 64, and 3 * f below n.
 fn checked_shape(n: u64, f: u64) -> Result<Shape, Refusal> {
     let within = (1..=MOST_PARTIES as u64).contains(&n) && 3 * u128::from(f) < u128::from(n);
-    if within {
-        Ok(Shape { parties: n as i64, faults: f as i64 })
-    } else {
-        Err(Refusal::Shape)
-    }
+    if within { Ok(Shape { parties: n as i64, faults: f as i64 }) } else { Err(Refusal::Shape) }
 }

@@ -103,8 +103,7 @@ fn read_rest<V: Value>(mut lines: Lines) -> Result<Sheet<V>, Unreadable> {
     let parties = lines
         .read(|line| number(field(line, "parties")?).filter(|&parties| parties <= PARTIES_LIMIT))?;
     let has_faults = lines.peek()?.is_some_and(|line| field(line, "faults").is_some());
-    let faults =
-        if has_faults { lines.read(|line| number(field(line, "faults")?))? } else { 0 };
+    let faults = if has_faults { lines.read(|line| number(field(line, "faults")?))? } else { 0 };
     let faulty = lines.read(|line| faulty_parties(field(line, "faulty")?))?;
     let mut own = Vec::new();
     for index in 0..parties {
@@ -138,19 +137,17 @@ fn faulty_parties(text: &[u8]) -> Option<u64> {
 
 /// A faulty party has `-` for its own value, and an honest one never.
 fn own_value<V: Value>(text: &[u8], is_faulty: bool) -> Option<V> {
-    if is_faulty {
-        (text == b"-").then_some(V::blank())
-    } else {
-        V::from_text(text)
-    }
+    if is_faulty { (text == b"-").then_some(V::blank()) } else { V::from_text(text) }
 }
 
 fn call(line: &[u8]) -> Option<Call> {
-    let calls: [(&str, fn(u64) -> Call); 4] = [
-        ("hand", Call::Hand),
-        ("repeat", Call::Repeat),
-        ("lose", Call::Lose),
-        ("timer", Call::Timer),
-    ];
-    calls.into_iter().find_map(|(name, call)| Some(call(number(field(line, name)?)?)))
+    let equals = line.iter().position(|&byte| byte == b'=')?;
+    let number = number(&line[equals + 1..])?;
+    match &line[..equals] {
+        b"hand" => Some(Call::Hand(number)),
+        b"repeat" => Some(Call::Repeat(number)),
+        b"lose" => Some(Call::Lose(number)),
+        b"timer" => Some(Call::Timer(number)),
+        _ => None,
+    }
 }

@@ -76,11 +76,9 @@ impl Value for Block {
     fn from_text(text: &[u8]) -> Option<Self> {
         let numbers: Option<Vec<u64>> = text.split(|&byte| byte == b',').map(number).collect();
         match numbers?[..] {
-            [first, count, party] => Some(Block {
-                first,
-                count: count.try_into().ok()?,
-                party: party.try_into().ok()?,
-            }),
+            [first, count, party] => {
+                Some(Block { first, count: count.try_into().ok()?, party: party.try_into().ok()? })
+            }
             _ => None,
         }
     }

@@ -23,9 +23,8 @@ fn fields(from: i64, to: i64, content: Content<Order>) -> Fields<Order> {
 
 #[test]
 fn set_up_refuses_in_order() {
-    let set_up = |wire: Wire<Order>, n, f, faulty, own: &[Order]| {
-        Ring::new(wire).set_up(n, f, faulty, own)
-    };
+    let set_up =
+        |wire: Wire<Order>, n, f, faulty, own: &[Order]| Ring::new(wire).set_up(n, f, faulty, own);
     let wire = || Wire::new(16);
     let used = || {
         let mut wire = Wire::new(1);
@@ -115,8 +114,7 @@ fn liars_alone_end_no_view() {
     while ring.wire().count() > 0 {
         assert!(ring.hand(0).is_ok());
     }
-    assert!((1..=5).all(|party| ring.show(party).is_ok_and(|shown| shown.view < 10)));
-    let _ = ring.timer(1);
+    assert!((1..=5).all(|party| ring.show(party).is_ok_and(|shown| shown.view == 2)));
 }
 
 fn hand_all(ring: &mut Ring<Order>, wanted: impl Fn(&Message<Order>) -> bool) {

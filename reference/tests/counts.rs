@@ -89,7 +89,11 @@ impl Shift {
             1 => Content::Suggest {
                 view,
                 suggest: Suggest {
-                    key3: key, value3: value, key2: second, value2: other, previous2: previous,
+                    key3: key,
+                    value3: value,
+                    key2: second,
+                    value2: other,
+                    previous2: previous,
                 },
             },
             2 => Content::Proof {

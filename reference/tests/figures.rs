@@ -109,8 +109,22 @@ fn a_frame_byte_for_byte() {
 fn frames_that_are_none() {
     let mut bytes = vec![0; frame_length::<Order>()];
     let _ = write_frame(&proof_from_1_to_4().fields(), &mut bytes);
-    let damage = [(0, 12), (0, 0), (1, 0), (1, 65), (2, 0), (3, 1), (4, 0x80), (8, 0x78), (15, 1),
-        (16, 0x7f), (19, 0xfe), (20, 4), (22, 0x59), (25, 1)];
+    let damage = [
+        (0, 12),
+        (0, 0),
+        (1, 0),
+        (1, 65),
+        (2, 0),
+        (3, 1),
+        (4, 0x80),
+        (8, 0x78),
+        (15, 1),
+        (16, 0x7f),
+        (19, 0xfe),
+        (20, 4),
+        (22, 0x59),
+        (25, 1),
+    ];
     for (at, byte) in damage {
         let mut damaged = bytes.clone();
         damaged[at] = byte;
@@ -145,7 +159,15 @@ fn frames_that_are_not_written() {
 #[test]
 fn an_abort_never_names_the_last_view() {
     let fields = |view| Fields {
-        kind: 11, from: 1, to: 1, view, key: 0, value: X, second_key: 0, second_value: X, previous: 0,
+        kind: 11,
+        from: 1,
+        to: 1,
+        view,
+        key: 0,
+        value: X,
+        second_key: 0,
+        second_value: X,
+        previous: 0,
     };
     let blank = |view| Fields { value: Order::Blank, second_value: Order::Blank, ..fields(view) };
     assert!(Message::from_fields(&blank(1_999_999_999)).is_some());

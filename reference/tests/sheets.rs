@@ -66,7 +66,10 @@ fn lines_that_are_wrong() {
 #[test]
 fn set_ups_that_are_refused() {
     refused_set_up("kind=block\nparties=0\nfaulty=none\n", 1);
-    refused_set_up("kind=order\nparties=3\nfaults=1\nfaulty=none\nown=hold\nown=hold\nown=hold\n", 1);
+    refused_set_up(
+        "kind=order\nparties=3\nfaults=1\nfaulty=none\nown=hold\nown=hold\nown=hold\n",
+        1,
+    );
     refused_set_up("kind=order\nparties=1\nfaulty=2\nown=hold\n", 2);
     refused_set_up("kind=order\nparties=1\nfaulty=1\nown=-\n", 3);
     refused_set_up("kind=block\nparties=1\nfaulty=none\nown=0,0,0\n", 5);
@@ -160,8 +163,12 @@ fn random_sheets_reach_what_they_should() {
     }
     println!(
         "set-up {:?}, calls {:?}, unreadable {}, all decided {}, decided after view 2 {}, locked and open {}",
-        reached.set_up, reached.calls, reached.unreadable, reached.all_decided,
-        reached.decided_later, reached.locked_open
+        reached.set_up,
+        reached.calls,
+        reached.unreadable,
+        reached.all_decided,
+        reached.decided_later,
+        reached.locked_open
     );
     let numbers = |refusals: &[Refusal]| refusals.iter().map(|r| r.number()).collect();
     let set_up_refusals = [Refusal::Shape, Refusal::Party, Refusal::Honesty, Refusal::OwnValue];
