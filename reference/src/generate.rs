@@ -5,7 +5,7 @@ use crate::message::Message;
 use crate::random::Random;
 use crate::ring::{Ring, State};
 use crate::run::{apply, set_up};
-use crate::sheet::{Call, PARTIES_LIMIT, SHEET_LIMIT, Sheet};
+use crate::sheet::{Call, PARTIES_LIMIT, SHEET_LIMIT, Sheet, head};
 use crate::value::{Block, Order, Value};
 
 /// Percentages of the calls that a stretch of a sheet is made of; hand has the rest.
@@ -131,24 +131,6 @@ fn faulty_parties(random: &mut Random, parties: u64, faults: u64) -> u64 {
     bits
 }
 
-/// The lines before the calls.
-fn head<V: Value>(sheet: &Sheet<V>, leave_out_faults: bool) -> String {
-    let mut text = format!("kind={}\nparties={}\n", V::NAME, sheet.parties);
-    if !leave_out_faults {
-        text += &format!("faults={}\n", sheet.faults);
-    }
-    let is_faulty = |index: u64| sheet.faulty >> index & 1 == 1;
-    let faulty: Vec<String> =
-        (0..64).filter(|&index| is_faulty(index)).map(|index| (index + 1).to_string()).collect();
-    let faulty = if faulty.is_empty() { "none".to_string() } else { faulty.join(",") };
-    text += &format!("faulty={faulty}\n");
-    for (index, value) in sheet.own.iter().enumerate() {
-        let own = if is_faulty(index as u64) { "-".to_string() } else { value.to_string() };
-        text += &format!("own={own}\n");
-    }
-    text
-}
-
 impl<V: Value> Draft<'_, V> {
     fn fill(&mut self) {
         if self.ring.is_none() {
@@ -174,12 +156,7 @@ impl<V: Value> Draft<'_, V> {
 
     /// Adds a call, unless the sheet is full.
     fn call(&mut self, call: Call) -> bool {
-        let line = match call {
-            Call::Hand(place) => format!("hand={place}\n"),
-            Call::Repeat(place) => format!("repeat={place}\n"),
-            Call::Lose(place) => format!("lose={place}\n"),
-            Call::Timer(party) => format!("timer={party}\n"),
-        };
+        let line = format!("{call}\n");
         if self.text.len() + line.len() > self.limit {
             return false;
         }

@@ -7,6 +7,7 @@
 
 pub mod frame;
 pub mod generate;
+pub mod liar;
 pub mod message;
 pub mod party;
 pub mod random;
@@ -14,5 +15,6 @@ pub mod refusal;
 pub mod ring;
 pub mod run;
 pub mod sheet;
+pub mod shift;
 pub mod value;
 pub mod wire;

@@ -49,7 +49,7 @@ fn run<V: Value>(sheet: &Sheet<V>) -> String {
 }
 
 /// The five lines of one party.
-fn shown<V: Value>(ring: &Ring<V>, party: u64) -> String {
+pub fn shown<V: Value>(ring: &Ring<V>, party: u64) -> String {
     let mut text = String::new();
     if let Ok(shown) = ring.show(party) {
         let (state, value) = match shown.state {

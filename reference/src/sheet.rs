@@ -1,6 +1,7 @@
 //! Run sheets: the text that names a ring, its own values and a list of calls.
 
 use crate::value::{Block, Order, Value, number};
+use std::fmt::{Display, Formatter, Result as FmtResult};
 
 pub const SHEET_LIMIT: usize = 60_000;
 /// The newline is not counted.
@@ -20,6 +21,17 @@ pub enum Call {
     Repeat(u64),
     Lose(u64),
     Timer(u64),
+}
+
+impl Display for Call {
+    fn fmt(&self, out: &mut Formatter) -> FmtResult {
+        match self {
+            Call::Hand(place) => write!(out, "hand={place}"),
+            Call::Repeat(place) => write!(out, "repeat={place}"),
+            Call::Lose(place) => write!(out, "lose={place}"),
+            Call::Timer(party) => write!(out, "timer={party}"),
+        }
+    }
 }
 
 /// A sheet that can be read, of one kind of value.
@@ -112,7 +124,7 @@ fn read_rest<V: Value>(mut lines: Lines) -> Result<Sheet<V>, Unreadable> {
     }
     let mut calls = Vec::new();
     while lines.peek()?.is_some() {
-        calls.push(lines.read(call)?);
+        calls.push(lines.read(read_call)?);
     }
     Ok(Sheet { parties, faults, faulty, own, calls })
 }
@@ -140,7 +152,8 @@ fn own_value<V: Value>(text: &[u8], is_faulty: bool) -> Option<V> {
     if is_faulty { (text == b"-").then_some(V::blank()) } else { V::from_text(text) }
 }
 
-fn call(line: &[u8]) -> Option<Call> {
+/// The call that a line of a sheet names.
+pub fn read_call(line: &[u8]) -> Option<Call> {
     let equals = line.iter().position(|&byte| byte == b'=')?;
     let number = number(&line[equals + 1..])?;
     match &line[..equals] {
@@ -150,4 +163,22 @@ fn call(line: &[u8]) -> Option<Call> {
         b"timer" => Some(Call::Timer(number)),
         _ => None,
     }
+}
+
+/// The lines before the calls.
+pub fn head<V: Value>(sheet: &Sheet<V>, leave_out_faults: bool) -> String {
+    let mut text = format!("kind={}\nparties={}\n", V::NAME, sheet.parties);
+    if !leave_out_faults {
+        text += &format!("faults={}\n", sheet.faults);
+    }
+    let is_faulty = |index: u64| sheet.faulty >> index & 1 == 1;
+    let faulty: Vec<String> =
+        (0..64).filter(|&index| is_faulty(index)).map(|index| (index + 1).to_string()).collect();
+    let faulty = if faulty.is_empty() { "none".to_string() } else { faulty.join(",") };
+    text += &format!("faulty={faulty}\n");
+    for (index, value) in sheet.own.iter().enumerate() {
+        let own = if is_faulty(index as u64) { "-".to_string() } else { value.to_string() };
+        text += &format!("own={own}\n");
+    }
+    text
 }

@@ -1,12 +1,14 @@
-//! compare_sheets [--stdin | --batch K] PROGRAM DIR...
+//! compare_sheets [--shifts] [--stdin | --batch K] PROGRAM DIR...
 //!
 //! Runs PROGRAM on every `.sheet` file of the directories and compares what it prints with the
 //! reference's listing, byte for byte; a `.listing` file beside a sheet is compared too.
 //! The program gets the sheet's path as its argument, or the sheet on standard input, or with
-//! `--batch` up to K paths at once, whose listings it prints one after another.
+//! `--batch` up to K paths at once, whose listings it prints one after another. With `--shifts`
+//! it is run on every `.shift` file, and the traces are compared.
 //! The exit status is 0 only if there was something to compare and all was equal.
 
 use reference::run::listing;
+use reference::shift::trace;
 use std::error::Error;
 use std::fs::File;
 use std::path::{Path, PathBuf};
@@ -21,6 +23,7 @@ enum Manner {
 }
 
 struct Comparison {
+    shifts: bool,
     manner: Manner,
     program: String,
     directories: Vec<String>,
@@ -36,6 +39,10 @@ struct Difference {
 
 fn arguments() -> Result<Comparison, Failure> {
     let mut words: Vec<String> = std::env::args().skip(1).collect();
+    let shifts = words.first().is_some_and(|word| word == "--shifts");
+    if shifts {
+        words.remove(0);
+    }
     let manner = match words.first().map(String::as_str) {
         Some("--stdin") => {
             words.remove(0);
@@ -49,24 +56,34 @@ fn arguments() -> Result<Comparison, Failure> {
         _ => Manner::Paths(1),
     };
     if words.len() < 2 {
-        return Err("usage: compare_sheets [--stdin | --batch K] PROGRAM DIR...".into());
+        return Err("usage: compare_sheets [--shifts] [--stdin | --batch K] PROGRAM DIR...".into());
     }
     let program = words.remove(0);
-    Ok(Comparison { manner, program, directories: words })
+    Ok(Comparison { shifts, manner, program, directories: words })
 }
 
-fn sheets(directories: &[String]) -> Result<Vec<PathBuf>, Failure> {
+fn files(comparison: &Comparison) -> Result<Vec<PathBuf>, Failure> {
+    let wanted = if comparison.shifts { "shift" } else { "sheet" };
     let mut paths = Vec::new();
-    for directory in directories {
+    for directory in &comparison.directories {
         for entry in std::fs::read_dir(directory)? {
             let path = entry?.path();
-            if path.extension().is_some_and(|extension| extension == "sheet") {
+            if path.extension().is_some_and(|extension| extension == wanted) {
                 paths.push(path);
             }
         }
     }
     paths.sort();
     Ok(paths)
+}
+
+/// What the reference prints for a file.
+fn expected(comparison: &Comparison, path: &Path) -> Result<String, Failure> {
+    if comparison.shifts {
+        trace(&std::fs::read_to_string(path)?).ok_or(format!("{}: no shift", path.display()).into())
+    } else {
+        Ok(listing(&std::fs::read(path)?))
+    }
 }
 
 /// What the program prints; the exit status is its own affair, but it must exit.
@@ -110,7 +127,7 @@ fn difference(listings: &[(&Path, String)], printed: &[u8]) -> Option<Difference
 fn compare(comparison: &Comparison, paths: &[PathBuf]) -> Result<Option<Difference>, Failure> {
     let mut listings = Vec::new();
     for path in paths {
-        let expected = listing(&std::fs::read(path)?);
+        let expected = expected(comparison, path)?;
         let stored = path.with_extension("listing");
         if stored.exists() {
             let stored = std::fs::read(stored)?;
@@ -127,7 +144,7 @@ fn compare(comparison: &Comparison, paths: &[PathBuf]) -> Result<Option<Differen
 
 fn run() -> Result<bool, Failure> {
     let comparison = arguments()?;
-    let paths = sheets(&comparison.directories)?;
+    let paths = files(&comparison)?;
     let group = match comparison.manner {
         Manner::Stdin => 1,
         Manner::Paths(count) => count,
@@ -140,7 +157,8 @@ fn run() -> Result<bool, Failure> {
             return Ok(false);
         }
     }
-    println!("{} sheets, all equal", paths.len());
+    let what = if comparison.shifts { "shifts" } else { "sheets" };
+    println!("{} {what}, all equal", paths.len());
     Ok(!paths.is_empty())
 }
 
