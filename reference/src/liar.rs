@@ -127,8 +127,8 @@ impl<V: Value> Plot<'_, V> {
         });
         let value = proposed.unwrap_or(self.random.pick(&self.values));
         let left_out = self.random.below(self.parties() as u64 + 1) as i64;
-        let key = self.random.below(view as u64) as i64;
-        let mut lies = vec![Content::Propose { view, key, value }];
+        let key = self.random.below(view as u64 + 1) as i64;
+        let mut lies = vec![self.false_proof(view), Content::Propose { view, key, value }];
         lies.extend(ROUNDS.map(|round| Content::Vote { round, view, value }));
         for from in self.liars() {
             for &to in honest.iter().filter(|&&to| to != left_out) {
@@ -143,6 +143,18 @@ impl<V: Value> Plot<'_, V> {
             let limit = if message.to == ahead { last_kind + 1 } else { last_kind };
             message.to != left_out && message.content.kind() <= limit
         });
+    }
+
+    /// A proof about any views up to this one; often it is near the lock of some party.
+    fn false_proof(&mut self, view: i64) -> Content<V> {
+        let honest = self.honest();
+        let party = self.random.pick(&honest);
+        let lock = self.ring.honest(party).map_or(0, |party| party.record().lock.view);
+        let any = self.random.below(view as u64 + 1) as i64;
+        let key1 = self.random.pick(&[lock, view, any]);
+        let previous1 = self.random.pick(&[lock, any, -1]);
+        let value1 = self.random.pick(&self.values);
+        Content::Proof { view, proof: Proof { key1, value1, previous1 } }
     }
 
     /// Lies of every kind between hands in any order.

@@ -35,6 +35,10 @@ fn a_proof_opens_locks() {
     let opens = |view, value| opens_lock(&proof, &Mark { view, value }, 9);
     assert!(opens(2, X) && opens(3, Y));
     assert!(!opens(3, X) && !opens(6, Y));
+    // The edges: a lock of key1's own view, and a key1 that is not of an earlier view.
+    assert!(opens(5, Y) && !opens(5, X));
+    let lock = Mark { view: 2, value: Y };
+    assert!(opens_lock(&proof, &lock, 6) && !opens_lock(&proof, &lock, 5));
 }
 
 #[test]
@@ -43,6 +47,9 @@ fn a_suggest_bears_out_keys() {
     let bears = |view, value| bears_out(&suggest, &Mark { view, value }, 9);
     assert!(bears(2, Y) && bears(3, X));
     assert!(!bears(3, Y) && !bears(6, X));
+    assert!(bears(5, X) && !bears(5, Y));
+    let key3 = Mark { view: 2, value: X };
+    assert!(bears_out(&suggest, &key3, 6) && !bears_out(&suggest, &key3, 5));
 }
 
 #[test]
