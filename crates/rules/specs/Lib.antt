@@ -5,3 +5,5 @@ pub mod Posts
 pub mod Tests
 pub mod Step
 pub mod Bounds
+pub mod Quorums
+pub mod Figures
