@@ -1,1 +1,4 @@
 pub mod History
+pub mod Voices
+pub mod LiveFacts
+pub mod Live
