@@ -49,6 +49,7 @@ module _ (g : Setting) (hon : ℕ → Bool) (party : ℕ → Party) (log : ℕ �
     pub later : (i kind v : ℕ) → hon i ≡ true → party i .rec .view < v → log i .said kind v ≡ None
     pub offered : (i : ℕ) → hon i ≡ true → log i .offered (party i .rec .view) ≡ party i .rec .offer
     pub suggested : (i : ℕ) → hon i ≡ true → log i .suggested (party i .rec .view) ≡ Some (party i .rec .suggest)
+    pub proved : (i : ℕ) → hon i ≡ true → log i .proved (party i .rec .view) ≡ Some (party i .rec .proof)
     pub field-at : (i kind : ℕ) → hon i ≡ true → 6 ≤ kind → kind ≤ 9 → party i .rec .field kind .at ≤ party i .rec .view
     pub locked : (i : ℕ) → hon i ≡ true → 0 < party i .rec .field 9 .at →
         log i .said 9 (party i .rec .field 9 .at) ≡ Some (party i .rec .field 9 .value)
@@ -56,6 +57,13 @@ module _ (g : Setting) (hon : ℕ → Bool) (party : ℕ → Party) (log : ℕ �
     pub allowed : (i v : ℕ) (x : List ℕ) → hon i ≡ true → log i .said 5 v ≡ Some x → g .allows x ≡ true
     pub one-done : (i j : ℕ) (x y : List ℕ) → hon i ≡ true → hon j ≡ true → party i .rec .done ≡ Some x → party j .rec .done ≡ Some y → x ≡ y
     pub decided : (i : ℕ) (x : List ℕ) → hon i ≡ true → party i .rec .decision ≡ Some x → Voiced g hon (λ j. party j .rec .done) x
+
+  -- what the rows of a party hold of an honest sender is what that sender has said
+  pub record Rows-say (i j : ℕ) : Type 0 where
+    pub vote : (kind : ℕ) → 5 ≤ kind → kind ≤ 9 → (party i .rows j .vote kind ≡ None) ⊎ (party i .rows j .vote kind ≡ log j .said kind (party i .rec .view))
+    pub proof : (party i .rows j .proof ≡ None) ⊎ (party i .rows j .proof ≡ log j .proved (party i .rec .view))
+    pub suggest : (party i .rows j .suggest ≡ None) ⊎ (party i .rows j .suggest ≡ log j .suggested (party i .rec .view))
+    pub done : (party i .rows j .done ≡ None) ⊎ (party i .rows j .done ≡ party j .rec .done)
 
   -- ## The primary's choice, and what became of it at the others
   -- what stands behind an offer of view v
@@ -88,6 +96,7 @@ module _ (g : Setting) (hon : ℕ → Bool) (party : ℕ → Party) (log : ℕ �
     pub prompt : (i : ℕ) → hon i ≡ true → Prompt g (party i)
     pub contents : (i : ℕ) → hon i ≡ true → Contents g (log i) (party i .rec)
     pub offers : Offers
+    pub rows : (i j : ℕ) → hon i ≡ true → hon j ≡ true → Rows-say i j
 
   -- ## What has arrived, once no message between honest parties is under way
   pub record Arrived (v : ℕ) : Type 0 where
