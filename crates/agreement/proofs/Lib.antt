@@ -1,7 +1,9 @@
 pub mod History
+pub mod Effects
 pub mod Voices
 pub mod LiveFacts
 pub mod Live
 pub mod Mail
 pub mod Delivery
 pub mod LiveArrive
+pub mod Walk
