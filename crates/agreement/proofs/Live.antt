@@ -258,7 +258,9 @@ module _ (g : Setting) (hon : ℕ → Bool) (laws : Quorums (g .n) hon (quorum g
           let e : party i .rec .field (suc kind) .at ≡ party i .rec .view = omega arith in
           let n : said-now (party i .rec) (suc kind) ≡ Some (party i .rec .field (suc kind) .value) = grind (arith, tells) in
           let c = back kind i v (party i .rec .field (suc kind) .value) l m hi (said-at i (suc kind) hi (omega arith) (omega arith) ∙ n) in
-          let d = sym (c .2) ∙ (said-at (c .0) kind (c .1) l (omega arith) ∙ all (c .0) (c .1)) in
+          let b = c .2 in
+          let d = said-at (c .0) kind (c .1) l (omega arith) in
+          let o = all (c .0) (c .1) in
           let s : party i .rec .field (suc kind) .value ≡ k .value = cc in
           n ∙ ap Some s
 
