@@ -1,5 +1,8 @@
 pub mod History
 pub mod Effects
+pub mod Posts
+pub mod Steps
+pub mod Runs
 pub mod Voices
 pub mod LiveFacts
 pub mod Live
@@ -7,3 +10,4 @@ pub mod Mail
 pub mod Delivery
 pub mod LiveArrive
 pub mod Walk
+pub mod Drawn
