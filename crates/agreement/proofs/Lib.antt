@@ -11,3 +11,4 @@ pub mod Delivery
 pub mod LiveArrive
 pub mod Walk
 pub mod Drawn
+pub mod Gives

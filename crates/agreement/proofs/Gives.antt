@@ -1,0 +1,97 @@
+-- What a part of a step makes goes to every party that has asked for the view, and what it sends goes to all.
+use Prim.Native.Nat.{ℕ, zero, suc, _+_, _≤_, _<_, max}
+use mathlib.Core.Bool.{Bool, true, false, cond, _&&_, _||_, not}
+use mathlib.Core.Path.{_≡_, refl, sym, _∙_, subst}
+use mathlib.Core.Logic.{_⊎_, inl, inr}
+use mathlib.Core.List.{List, [], _∷_, _++_}
+use native.Mathlib.Omega.{arith}
+use lib.Dec.{leb, ltb, eqb}
+use Rattle.std.specs.declared.option.Option.{Option}
+use Rattle.std.specs.declared.option.Option.the-variants.{Some, None}
+use Rattle.std.proofs.shelf.Tests.{cond-both, and-parts, eqb-true, eq-eqb, leb-true, cases-eq}
+use Rattle.std.proofs.shelf.Ways.{tells}
+use Rattle.values.specs.Same.{equal}
+use Rattle.messages.specs.Messages.{Msg, between}
+use Rattle.rules.specs.Counting.{upd}
+use Rattle.rules.specs.Party.{Setting, Keyed, Suggest, Proof, Proposal, nothing, waiting, echoed, dropped, Record, Row, Party, Step, with-rec, with-proposal, with-row, with-abort, still, and-then, none}
+use Rattle.rules.specs.Thresholds.{primary, quorum, voucher}
+use Rattle.rules.specs.Posts.{to-each, view-msg, suggest-msg, proof-msg, propose-msg, vote-msg, to-all, to-joined, made-offer, made-echo, made-vote, made, suggest-to}
+use Rattle.rules.specs.Tests.{lock-opened, accepted, voted, done-vouched, done-agreed, best, is-nothing}
+use Rattle.rules.specs.Step.{enter, on-request, told-suggest, propose, propose-due, on-suggest, echo, wake-proposal, told-proof, told-vote, announce, announce-due, on-vote, on-lock, say-done, told-done, decide, on-done, say-abort}
+use Rattle.agreement.proofs.History.{said-now, echo-of}
+use Rattle.agreement.proofs.Mail.{In, in-left, in-right, in-append, in-one, in-first, in-later, in-if, in-each}
+use Rattle.agreement.proofs.Walk.{Now, Turn, Wakes, raised-row, proposed}
+use Rattle.agreement.proofs.Delivery.{Sent}
+
+-- each message that party j is owed is owed already, or is posted
+pub record Gives (g : Setting) (me : ℕ) (p : Party) (j : ℕ) (s : Step) : Type 0 where
+  pub request : (s .after .rec .view ≡ p .rec .view) ⊎ In (view-msg g me 1 (s .after .rec .view) j) (s .posts)
+  pub done : (x : List ℕ) → s .after .rec .done ≡ Some x → (p .rec .done ≡ Some x) ⊎ In (vote-msg g me 10 0 x j) (s .posts)
+  pub vote : (kind : ℕ) (x : List ℕ) → 5 ≤ kind → kind ≤ 9 → s .after .rows j .request ≡ s .after .rec .view → said-now (s .after .rec) kind ≡ Some x →
+      ((p .rows j .request ≡ p .rec .view) × (said-now (p .rec) kind ≡ Some x) × (s .after .rec .view ≡ p .rec .view)) ⊎ In (vote-msg g me kind (s .after .rec .view) x j) (s .posts)
+  pub proof : s .after .rows j .request ≡ s .after .rec .view →
+      ((p .rows j .request ≡ p .rec .view) × (s .after .rec .view ≡ p .rec .view) × (s .after .rec .proof ≡ p .rec .proof)) ⊎
+      In (proof-msg g me (s .after .rec .view) (s .after .rec .proof) j) (s .posts)
+  pub suggest : s .after .rows j .request ≡ s .after .rec .view → j ≡ primary g (s .after .rec .view) →
+      ((p .rows j .request ≡ p .rec .view) × (s .after .rec .view ≡ p .rec .view) × (s .after .rec .suggest ≡ p .rec .suggest)) ⊎
+      In (suggest-msg g me (s .after .rec .view) (s .after .rec .suggest) j) (s .posts)
+  pub propose : (k : Keyed) → s .after .rows j .request ≡ s .after .rec .view → s .after .rec .offer ≡ Some k →
+      ((p .rows j .request ≡ p .rec .view) × (s .after .rec .view ≡ p .rec .view) × (p .rec .offer ≡ Some k)) ⊎ In (propose-msg g me (s .after .rec .view) k j) (s .posts)
+
+module _ (g : Setting) (me : ℕ) (p : Party) (m : Msg) (j : ℕ) (lo : 1 ≤ j) (hi : j ≤ g .n) where
+  abbrev G : Step → Type 0
+  G = Gives g me p j
+
+  joined-has : (q : Party) (what : ℕ → Msg) → q .rows j .request ≡ q .rec .view → In (what j) (to-joined g me q what)
+  joined-has q what e = in-each (λ i. eqb (q .rows i .request) (q .rec .view)) what (g .n) j lo hi (eq-eqb _ _ e)
+
+  all-have : (what : ℕ → Msg) → In (what j) (to-all g me what)
+  all-have what = in-each (λ _. true) what (g .n) j lo hi refl
+
+  pub stay-gives : G (still p)
+  stay-gives = grind (arith, tells)
+
+  -- ## What was made is in the list of the messages made
+  module _ (r : Record) where
+    has-proof : In (proof-msg g me (r .view) (r .proof) j) (made g me r j)
+    unfolding made
+    has-proof = in-first _ _
+
+    one-offer : (o : Option Keyed) (k : Keyed) → o ≡ Some k → In (propose-msg g me (r .view) k j) (made-offer g me (r .view) o j)
+    one-offer None k e = absurd (let z : _≡_ {A = ℕ} 0 1 = cc in omega arith)
+    one-offer (Some l) k e = let q : l ≡ k = cc in subst (λ n. In (propose-msg g me (r .view) k j) (propose-msg g me (r .view) n j ∷ [])) (sym q) (in-one _)
+
+    has-offer : (k : Keyed) → r .offer ≡ Some k → In (propose-msg g me (r .view) k j) (made g me r j)
+    unfolding made
+    has-offer k e = in-later _ _ _ (in-left _ _ _ (one-offer (r .offer) k e))
+
+    one-echo : (o : Proposal) (x : List ℕ) → echo-of o ≡ Some x → In (vote-msg g me 5 (r .view) x j) (made-echo g me (r .view) o j)
+    one-echo nothing x e = absurd (let z : _≡_ {A = ℕ} 0 1 = cc in omega arith)
+    one-echo (waiting y) x e = absurd (let z : _≡_ {A = ℕ} 0 1 = cc in omega arith)
+    one-echo dropped x e = absurd (let z : _≡_ {A = ℕ} 0 1 = cc in omega arith)
+    one-echo (echoed y) x e = let q : y ≡ x = cc in subst (λ n. In (vote-msg g me 5 (r .view) x j) (vote-msg g me 5 (r .view) n j ∷ [])) (sym q) (in-one _)
+
+    one-vote : (k : ℕ) (x : List ℕ) → 6 ≤ k → k ≤ 9 → said-now r k ≡ Some x → In (vote-msg g me k (r .view) x j) (made-vote g me k r j)
+    one-vote k x a b e =
+        let q : r .field k .value ≡ x = grind (arith, tells) in
+        let t : eqb (r .field k .at) (r .view) ≡ true = grind (arith, tells) in
+        subst (λ n. In (vote-msg g me k (r .view) n j) (made-vote g me k r j)) q (in-if _ _ t)
+
+    has-vote : (k : ℕ) (x : List ℕ) → 5 ≤ k → k ≤ 9 → said-now r k ≡ Some x → In (vote-msg g me k (r .view) x j) (made g me r j)
+    unfolding made
+    has-vote k x a b e =
+        elim (cases-eq k 5) [
+          inl q ↦ in-later _ _ _ (in-right _ (made-offer g me (r .view) (r .offer) j) _ (in-left _ _ _
+            (subst (λ n. In (vote-msg g me n (r .view) x j) (made-echo g me (r .view) (r .proposal) j)) (sym q) (one-echo (r .proposal) x (subst (λ n. said-now r n ≡ Some x) q e)))))
+        | inr n₅ ↦ let o = one-vote k x (omega arith) b e in
+          in-later _ _ _ (in-right _ (made-offer g me (r .view) (r .offer) j) _ (in-right _ (made-echo g me (r .view) (r .proposal) j) _ (elim (cases-eq k 6) [
+            inl q ↦ in-left _ _ _ (subst (λ n. In (vote-msg g me k (r .view) x j) (made-vote g me n r j)) q o)
+          | inr n₆ ↦ in-right _ (made-vote g me 6 r j) _ (elim (cases-eq k 7) [
+              inl q ↦ in-left _ _ _ (subst (λ n. In (vote-msg g me k (r .view) x j) (made-vote g me n r j)) q o)
+            | inr n₇ ↦ in-right _ (made-vote g me 7 r j) _ (elim (cases-eq k 8) [
+                inl q ↦ in-left _ _ _ (subst (λ n. In (vote-msg g me k (r .view) x j) (made-vote g me n r j)) q o)
+              | inr n₈ ↦ in-right _ (made-vote g me 8 r j) _ (let q : k ≡ 9 = omega arith in subst (λ n. In (vote-msg g me k (r .view) x j) (made-vote g me n r j)) q o)
+              ])
+            ])
+          ])))
+        ]
