@@ -12,3 +12,5 @@ pub mod LiveArrive
 pub mod Walk
 pub mod Drawn
 pub mod Gives
+pub mod Closure
+pub mod Part
