@@ -14,3 +14,4 @@ pub mod Drawn
 pub mod Gives
 pub mod Closure
 pub mod Part
+pub mod Prompt
