@@ -15,3 +15,4 @@ pub mod Gives
 pub mod Closure
 pub mod Part
 pub mod Prompt
+pub mod DeliverySpent
