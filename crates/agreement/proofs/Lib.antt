@@ -16,3 +16,5 @@ pub mod Closure
 pub mod Part
 pub mod Prompt
 pub mod DeliverySpent
+pub mod DeliveryPart
+pub mod DeliveryKept
