@@ -3,6 +3,16 @@ pub mod Effects
 pub mod Posts
 pub mod Steps
 pub mod Runs
+pub mod Begin
+pub mod World
+pub mod Notes
+pub mod Echoes
+pub mod Locks
+pub mod Keys
+pub mod Fair
+pub mod Invariant
+pub mod Stepped
+pub mod Kept
 pub mod Voices
 pub mod LiveFacts
 pub mod Live
