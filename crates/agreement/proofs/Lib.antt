@@ -28,3 +28,4 @@ pub mod Prompt
 pub mod DeliverySpent
 pub mod DeliveryPart
 pub mod DeliveryKept
+pub mod Choice

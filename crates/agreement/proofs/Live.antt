@@ -121,10 +121,10 @@ module _ (g : Setting) (hon : ℕ → Bool) (laws : Quorums (g .n) hon (quorum g
       said-offer : log (primary g v) .offered v ≡ Some k
       said-offer = let e = S .offered (primary g v) hp in let w = a .view (primary g v) hp in (subst (λ u. log (primary g v) .offered u ≡ party (primary g v) .rec .offer) w e) ∙ ok
 
-      backed : Backed g hon party log v k
+      backed : Backed g hon log v k
       backed = f .offers .backed (primary g v) v k hp said-offer
 
-      same-offer : (x : List ℕ) → Offer-of g hon party log v x → k .value ≡ x
+      same-offer : (x : List ℕ) → Offer-of g hon log v x → k .value ≡ x
       same-offer x o = let e = o .1 in let q = o .2 in let s = said-offer in cc
 
       -- a lock of this view is on the offered value
@@ -163,9 +163,9 @@ module _ (g : Setting) (hon : ℕ → Bool) (laws : Quorums (g .n) hon (quorum g
           let q : log (primary g v) .offered v ≡ Some (d .0) = subst (λ u. log (primary g u) .offered u ≡ Some (d .0)) w (d .1) in
           let s = said-offer in
           let eq : d .0 ≡ k = cc in
-          unfit (subst (λ u. Unfit g hon party log i u k) w (subst (λ x. Unfit g hon party log i (party i .rec .view) x) eq (d .2)))
+          unfit (subst (λ u. Unfit g hon log i u k) w (subst (λ x. Unfit g hon log i (party i .rec .view) x) eq (d .2)))
         where
-          unfit : Unfit g hon party log i v k → ⊥
+          unfit : Unfit g hon log i v k → ⊥
           unfit (inl z) = let al = backed .allowed in let y : _≡_ {A = ℕ} 0 1 = grind arith in omega arith
           unfit (inr (u, z, s, ne, why)) = let r = lock-reached i u z hi s ne in let b = backed .before in elim why [ inl q ↦ omega arith | inr q ↦ omega arith ]
 
@@ -210,7 +210,7 @@ module _ (g : Setting) (hon : ℕ → Bool) (laws : Quorums (g .n) hon (quorum g
           let w : party i .rec .view ≡ v = a .view i hi in
           let t = f .prompt i hi .wait x e in
           let o = f .offers .wait i x hi (rw w hp) e in
-          let same : k .value ≡ x = same-offer x (subst (λ u. Offer-of g hon party log u x) w o) in
+          let same : k .value ≡ x = same-offer x (subst (λ u. Offer-of g hon log u x) w o) in
           let u = party i .rec .field 9 .at in
           let z = party i .rec .field 9 .value in
           let ne : equal z (k .value) ≡ false = rw same (t .1) in

@@ -42,6 +42,25 @@ pub record Contents (g : Setting) (log : Log) (r : Record) : Type 0 where
   pub key2 : 0 < r .suggest .key2 .at → log .said 7 (r .suggest .key2 .at) ≡ Some (r .suggest .key2 .value)
   pub previous : (q : ℕ) → r .suggest .previous ≡ Some q → 0 < q → (y : List ℕ) × (log .said 7 q ≡ Some y) × (equal y (r .suggest .key2 .value) ≡ false)
 
+-- ## The primary's choice
+module _ (g : Setting) (hon : ℕ → Bool) (log : ℕ → Log) where
+  -- what stands behind an offer of view v
+  pub record Backed (v : ℕ) (k : Keyed) : Type 0 where
+    pub allowed : g .allows (k .value) ≡ true
+    pub before : k .at < v
+    pub support : quorum g (λ j. not (hon j) || suggests-to (k .at) (log j .suggested v)) ≡ true
+    pub borne : 0 < k .at → (j : ℕ) × (hon j ≡ true) × (bears-key v k (log j .suggested v) ≡ true)
+
+  -- the value of an offer made by the primary of view v
+  abbrev pub Offer-of : ℕ → List ℕ → Type 0
+  Offer-of v x = (k : Keyed) × (log (primary g v) .offered v ≡ Some k) × (k .value ≡ x)
+
+  -- an offer that party i could not follow: not allowed, or against a lock that its key does not reach
+  abbrev pub Unfit : ℕ → ℕ → Keyed → Type 0
+  Unfit i v k =
+      (g .allows (k .value) ≡ false) ⊎
+      ((u : ℕ) × (z : List ℕ) × (log i .said 9 u ≡ Some z) × (equal z (k .value) ≡ false) × ((k .at < u) ⊎ (v ≤ k .at)))
+
 module _ (g : Setting) (hon : ℕ → Bool) (party : ℕ → Party) (log : ℕ → Log) where
   -- ## Of safety: the log agrees with the records, and a quorum stands behind every stage
   pub record Safe : Type 0 where
@@ -65,31 +84,14 @@ module _ (g : Setting) (hon : ℕ → Bool) (party : ℕ → Party) (log : ℕ �
     pub suggest : (party i .rows j .suggest ≡ None) ⊎ (party i .rows j .suggest ≡ log j .suggested (party i .rec .view))
     pub done : (party i .rows j .done ≡ None) ⊎ (party i .rows j .done ≡ party j .rec .done)
 
-  -- ## The primary's choice, and what became of it at the others
-  -- what stands behind an offer of view v
-  pub record Backed (v : ℕ) (k : Keyed) : Type 0 where
-    pub allowed : g .allows (k .value) ≡ true
-    pub before : k .at < v
-    pub support : quorum g (λ j. not (hon j) || suggests-to (k .at) (log j .suggested v)) ≡ true
-    pub borne : 0 < k .at → (j : ℕ) × (hon j ≡ true) × (bears-key v k (log j .suggested v) ≡ true)
-
-  -- the value of an offer made by the primary of view v
-  abbrev pub Offer-of : ℕ → List ℕ → Type 0
-  Offer-of v x = (k : Keyed) × (log (primary g v) .offered v ≡ Some k) × (k .value ≡ x)
-
-  -- an offer that party i could not follow: not allowed, or against a lock that its key does not reach
-  abbrev pub Unfit : ℕ → ℕ → Keyed → Type 0
-  Unfit i v k =
-      (g .allows (k .value) ≡ false) ⊎
-      ((u : ℕ) × (z : List ℕ) × (log i .said 9 u ≡ Some z) × (equal z (k .value) ≡ false) × ((k .at < u) ⊎ (v ≤ k .at)))
-
+  -- ## What became of the primary's choice at the others
   pub record Offers : Type 0 where
-    pub backed : (i v : ℕ) (k : Keyed) → hon i ≡ true → log i .offered v ≡ Some k → Backed v k
-    pub echo : (i v : ℕ) (x : List ℕ) → hon i ≡ true → hon (primary g v) ≡ true → log i .said 5 v ≡ Some x → Offer-of v x
+    pub backed : (i v : ℕ) (k : Keyed) → hon i ≡ true → log i .offered v ≡ Some k → Backed g hon log v k
+    pub echo : (i v : ℕ) (x : List ℕ) → hon i ≡ true → hon (primary g v) ≡ true → log i .said 5 v ≡ Some x → Offer-of g hon log v x
     pub wait : (i : ℕ) (x : List ℕ) → hon i ≡ true → hon (primary g (party i .rec .view)) ≡ true → party i .rec .proposal ≡ waiting x →
-        Offer-of (party i .rec .view) x
+        Offer-of g hon log (party i .rec .view) x
     pub drop : (i : ℕ) → hon i ≡ true → hon (primary g (party i .rec .view)) ≡ true → party i .rec .proposal ≡ dropped →
-        (k : Keyed) × (log (primary g (party i .rec .view)) .offered (party i .rec .view) ≡ Some k) × Unfit i (party i .rec .view) k
+        (k : Keyed) × (log (primary g (party i .rec .view)) .offered (party i .rec .view) ≡ Some k) × Unfit g hon log i (party i .rec .view) k
 
   pub record Facts : Type 0 where
     pub safe : Safe
