@@ -29,3 +29,4 @@ pub mod DeliverySpent
 pub mod DeliveryPart
 pub mod DeliveryKept
 pub mod Choice
+pub mod ChoiceKept
