@@ -89,3 +89,6 @@ module _ (k : Kind) (s : Ring) (few : 3 * s .f < s .n) (bound : count (s .faulty
 -- an honest party is in the ring, and not faulty
 pub honest-parts : (s : Ring) (i : ℕ) → honest s i ≡ true → (1 ≤ i) × (i ≤ s .n) × (s .faulty i ≡ false)
 honest-parts s i h = (grind (arith, tells), grind (arith, tells), grind (arith, tells))
+
+pub in-ring-parts : (s : Ring) (i : ℕ) → in-ring s i ≡ true → (1 ≤ i) × (i ≤ s .n)
+in-ring-parts s i h = (grind (arith, tells), grind (arith, tells))

@@ -13,6 +13,10 @@ pub mod Fair
 pub mod Invariant
 pub mod Stepped
 pub mod Kept
+pub mod Sound
+pub mod Start
+pub mod Decided
+pub mod Upshot
 pub mod Voices
 pub mod LiveFacts
 pub mod Live
