@@ -34,3 +34,4 @@ pub mod DeliveryPart
 pub mod DeliveryKept
 pub mod Choice
 pub mod ChoiceKept
+pub mod LiveGather
