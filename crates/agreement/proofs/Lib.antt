@@ -35,3 +35,4 @@ pub mod DeliveryKept
 pub mod Choice
 pub mod ChoiceKept
 pub mod LiveGather
+pub mod LiveBegin
