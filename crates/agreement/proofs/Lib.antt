@@ -36,3 +36,4 @@ pub mod Choice
 pub mod ChoiceKept
 pub mod LiveGather
 pub mod LiveBegin
+pub mod NobodyLeft

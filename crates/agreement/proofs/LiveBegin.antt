@@ -8,6 +8,7 @@ use native.Mathlib.Omega.{arith}
 use lib.Dec.{leb, ltb, eqb}
 use Rattle.std.specs.declared.option.Option.{Option}
 use Rattle.std.specs.declared.option.Option.the-variants.{Some, None}
+use Rattle.std.specs.shelf.Lists.{All}
 use Rattle.std.proofs.shelf.Tests.{cases-eq, cases-lt, both-ways}
 use Rattle.std.proofs.shelf.Ways.{tells}
 use Rattle.messages.specs.Messages.{Msg}
@@ -21,8 +22,10 @@ use Rattle.agreement.proofs.History.{Log, said-now}
 use Rattle.agreement.proofs.Posts.{Post, enter-posts}
 use Rattle.agreement.proofs.Begin.{Started, honest-parts}
 use Rattle.agreement.proofs.World.{World, none-some}
-use Rattle.agreement.proofs.Start.{first-log, quiet, first-said, ring, W}
-use Rattle.agreement.proofs.Mail.{In, in-left, in-right, in-append, in-none, in-all, in-each}
+use Rattle.agreement.proofs.Fair.{MsgFair, post-fair}
+use Rattle.agreement.proofs.Sound.{Fair}
+use Rattle.agreement.proofs.Start.{first-log, quiet, first-said, first-inv, ring, W}
+use Rattle.agreement.proofs.Mail.{In, in-left, in-right, in-append, in-none, in-all, all-in, in-each}
 use Rattle.agreement.proofs.Delivery.{Sent, Delivery}
 use Rattle.agreement.proofs.Closure.{Tallied, Waits}
 use Rattle.agreement.proofs.Prompt.{first-tallied, first-waits}
@@ -107,6 +110,18 @@ module _ (k : Kind) (p : Plan) (s : Ring) (t : Started k p s) where
       some-of : (b : Bool) → In y (cond b [] (first-step k p s (suc n) .posts)) → In y (first-step k p s (suc n) .posts)
       some-of true i = absurd (in-none y i)
       some-of false i = i
+
+  -- each says what its sender holds
+  fair-first : (y : Msg) → In y (first-posts k p s (p .n)) → Fair (W k p s t) (ring k p s t .parties) (first-said k p s) y
+  fair-first y i hy =
+      let z = first-post (p .n) y i in
+      let hz : honest (ring k p s t) (z .0) ≡ true = subst (λ j. honest (ring k p s t) j ≡ true) (z .1 .from) hy in
+      subst (λ j. MsgFair (first-said k p s j) (ring k p s t .parties j .rec .done) y) (sym (z .1 .from))
+        (post-fair g (z .0) (unborn (own (z .0))) (ring k p s t .parties (z .0)) y (first-said k p s (z .0)) (first-inv k p s t .ok (z .0) hz)
+          (subst (λ q. Post g (z .0) (unborn (own (z .0))) q y) (sym (is-first (z .0) hz)) (z .1)))
+
+  pub posts-begun : All (Fair (W k p s t) (ring k p s t .parties) (first-said k p s)) (first-posts k p s (p .n))
+  posts-begun = all-in _ (first-posts k p s (p .n)) fair-first
 
   first-joined : (i j : ℕ) → first-step k p s i .after .rows j .request ≡ first-step k p s i .after .rec .view → ⊥
   unfolding enter

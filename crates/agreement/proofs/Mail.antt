@@ -62,6 +62,11 @@ in-all P m [] a h = absurd h
 in-all P m (x ∷ xs) a (inl e) = subst P (sym e) (a .0)
 in-all P m (x ∷ xs) a (inr h) = in-all P m xs (a .1) h
 
+pub all-in : (P : Msg → Type 0) (xs : List Msg) → ((m : Msg) → In m xs → P m) → All P xs
+unfolding In
+all-in P [] h = tt
+all-in P (x ∷ xs) h = (h x (inl refl), all-in P xs (λ m i. h m (inr i)))
+
 -- ## Looked at, taken out
 pub looked-in : (m : Msg) (xs : List Msg) (i : ℕ) → looked xs i ≡ Ok m → In m xs
 unfolding In
