@@ -18,7 +18,7 @@ use Rattle.rules.specs.Thresholds.{quorum, voucher, primary}
 use Rattle.rules.specs.Tests.{below, up-to, opens, bears-out, bears-key, accepts, accepted, borne-out, higher, best}
 use Rattle.agreement.proofs.History.{Log, said-now, note}
 use Rattle.agreement.proofs.LiveFacts.{suggests-to, Backed, Unfit}
-use Rattle.agreement.proofs.Voices.{same-tells}
+use Rattle.values.proofs.Same.{same-from-equal, equal-from}
 use Rattle.agreement.proofs.World.{World}
 
 -- a key with its previous one covers all that was said by its stage before view w: said no later than the previous key, or the key's value no later than the key
@@ -42,7 +42,7 @@ covers-moved log key previous w y b l c v x h = go (equal (key .value) y) refl (
     go : (t : Bool) → equal (key .value) y ≡ t → (up-to v previous ≡ true) ⊎ ((v ≤ key .at) × (key .value ≡ x)) →
         (up-to v (cond (not t) (Some (key .at)) previous) ≡ true) ⊎ ((v ≤ w) × (y ≡ x))
     go true e (inl z) = inl z
-    go true e (inr z) = let q = z .1 in let d = same-tells (key .value) y in let r : y ≡ x = grind arith in let u = z .0 in inr (omega arith, r)
+    go true e (inr z) = let u = z .0 in inr (omega arith, sym (same-from-equal _ _ e) ∙ z .1)
     go false e (inl z) = inl (le-leb _ _ (up-to-below v (key .at) previous z b))
     go false e (inr z) = inl (le-leb _ _ (z .0))
 
@@ -66,8 +66,8 @@ bears-by log w s v x b l c lt h = go (s .previous) b (c .each v x lt h)
         ((below o (s .key2 .at) && ltb (s .key2 .at) w) && (up-to v o || (leb v (s .key2 .at) && equal (s .key2 .value) x))) ≡ true
     go None b (inl z) = absurd (let y : _≡_ {A = ℕ} 0 1 = grind arith in omega arith)
     go (Some p) b (inl z) = grind (arith, tells)
-    go None b (inr z) = let u = z .0 in let q = z .1 in let d = same-tells (s .key2 .value) x in grind (arith, tells)
-    go (Some p) b (inr z) = let u = z .0 in let q = z .1 in let d = same-tells (s .key2 .value) x in grind (arith, tells)
+    go None b (inr z) = let u = z .0 in let q = z .1 in let n : equal (s .key2 .value) x ≡ true = equal-from _ _ q in grind (arith, tells)
+    go (Some p) b (inr z) = let u = z .0 in let q = z .1 in let n : equal (s .key2 .value) x ≡ true = equal-from _ _ q in grind (arith, tells)
 
 -- ## The suggest that is followed
 module _ (g : Setting) (p : Party) where

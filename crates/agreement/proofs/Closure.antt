@@ -19,7 +19,8 @@ use Rattle.rules.specs.Step.{echo, wake, wake-proposal}
 use Rattle.rules.specs.Quorums.{Quorums}
 use Rattle.rules.proofs.Quorums.{quorums-meet}
 use Rattle.agreement.proofs.Effects.{Effect, E}
-use Rattle.agreement.proofs.Voices.{same-tells, is-some}
+use Rattle.values.proofs.Same.{same-from-equal}
+use Rattle.agreement.proofs.World.{is-some}
 use Rattle.agreement.proofs.LiveFacts.{Prompt}
 use Rattle.agreement.proofs.Drawn.{Keeps, Draws, Drops, D}
 
@@ -159,7 +160,7 @@ module _ (g : Setting) (hon : ℕ → Bool) (laws : Quorums (g .n) hon (quorum g
     new-done : (x : List ℕ) → ((m .kind ≡ 10) × (m .value ≡ x)) ⊎ ((m .kind ≡ 10) → (is x (Some (m .value)) ≡ true) → ⊥)
     new-done x =
         elim (cases-eq (m .kind) 10) [
-          inl a ↦ elim (same-tells (m .value) x) [ inl s ↦ inl (a, s .1) | inr s ↦ inr (λ _ y. let z = is-some x (Some (m .value)) y in s .1 (cc)) ]
+          inl a ↦ elim (cases-bool (equal (m .value) x)) [ inl s ↦ inl (a, same-from-equal _ _ s) | inr s ↦ inr (λ _ y. both-ways _ s y) ]
         | inr a ↦ inr (λ b _. a b)
         ]
 

@@ -20,6 +20,8 @@ use Rattle.rules.specs.Thresholds.{primary, quorum, voucher}
 use Rattle.rules.specs.Tests.{heeded, is-nothing}
 use Rattle.rules.specs.Step.{step, on-timer}
 use Rattle.rules.specs.Quorums.{Quorums}
+use Rattle.agreement.proofs.Invariant.{upd-ind}
+use Rattle.agreement.proofs.Sound.{upd-here}
 use Rattle.agreement.proofs.Mail.{In, in-left, in-right, in-append, in-one, in-only, in-none, looked-in, taken-in, in-taken}
 use Rattle.agreement.proofs.Walk.{Parts, walk-step, walk-timer}
 use Rattle.agreement.proofs.Drawn.{Keeps, D}
@@ -27,7 +29,7 @@ use Rattle.agreement.proofs.Closure.{Tallied}
 use Rattle.agreement.proofs.Part.{Part, by-parts}
 use Rattle.agreement.proofs.Delivery.{Sent, Spent, Delivery}
 use Rattle.agreement.proofs.DeliverySpent.{spent-kept, spent-now}
-use Rattle.agreement.proofs.DeliveryPart.{upd-each, upd-at, sent-more, Mailed, step-mailed, timer-mailed}
+use Rattle.agreement.proofs.DeliveryPart.{sent-more, Mailed, step-mailed, timer-mailed}
 
 -- ## What a whole step never takes back
 keeps-same : (g : Setting) (p : Party) → Keeps g p p
@@ -75,7 +77,7 @@ module _ (g : Setting) (hon : ℕ → Bool) (laws : Quorums (g .n) hon (quorum g
     spent-still : (y : Msg) → In y posted → hon (y .from) ≡ true → hon (y .to) ≡ true → 1 ≤ y .kind → y .kind ≤ 10 →
         heeded g (y .to) (party (y .to)) y ≡ false → heeded g (y .to) (upd party me q (y .to)) y ≡ false
     spent-still y i hf ht lo hi h =
-        upd-each (λ (n : ℕ) (r : Party). y .to ≡ n → heeded g n r y ≡ false) party me q
+        upd-ind (λ (n : ℕ) (r : Party). y .to ≡ n → heeded g n r y ≡ false) party me q
           (λ e. spent-kept g me (party me) q y k lo hi (λ a b. subst (λ n. y .view ≤ party n .rec .view) e (d .entered y i hf ht a b))
             (subst (λ n. heeded g n (party n) y ≡ false) e h))
           (λ n e. subst (λ n. heeded g n (party n) y ≡ false) e h) (y .to) refl
@@ -107,7 +109,7 @@ module _ (g : Setting) (hon : ℕ → Bool) (laws : Quorums (g .n) hon (quorum g
           (λ y j a b. elim (out y j) [
             inr z ↦ inl z
           | inl e ↦ inr (subst (λ n. heeded g (n .to) (upd party (m .to) (step g (m .to) (party (m .to)) m .after) (n .to)) n ≡ false) (sym e)
-              (subst (λ (r : Party). heeded g (m .to) r m ≡ false) (sym (upd-at party (m .to) (step g (m .to) (party (m .to)) m .after)))
+              (subst (λ (r : Party). heeded g (m .to) r m ≡ false) (sym (upd-here party (m .to) (step g (m .to) (party (m .to)) m .after)))
                 (spent-now g (m .to) m (party (m .to)) (subst (λ (n : Msg). 1 ≤ n .kind) e a) (subst (λ (n : Msg). n .kind ≤ 10) e b))))
           ])
 

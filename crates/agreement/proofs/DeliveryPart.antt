@@ -19,6 +19,8 @@ use Rattle.rules.specs.Step.{step, on-timer}
 use Rattle.rules.specs.Quorums.{Quorums}
 use Rattle.agreement.proofs.History.{said-now}
 use Rattle.agreement.proofs.Posts.{Post, Posts}
+use Rattle.agreement.proofs.Invariant.{upd-ind}
+use Rattle.agreement.proofs.Sound.{upd-here, upd-upd, upd-same}
 use Rattle.agreement.proofs.Mail.{In, in-left, in-right, in-append, in-all}
 use Rattle.agreement.proofs.Walk.{Parts, walk-step, walk-timer}
 use Rattle.agreement.proofs.Drawn.{Keeps, D}
@@ -27,27 +29,6 @@ use Rattle.agreement.proofs.Closure.{Tallied}
 use Rattle.agreement.proofs.Part.{Part, by-parts}
 use Rattle.agreement.proofs.Prompt.{part-tallied}
 use Rattle.agreement.proofs.Delivery.{Sent}
-
--- ## A table with one entry changed
-pub upd-each : {X : Type 0} (P : ℕ → X → Type 0) (s : ℕ → X) (me : ℕ) (x : X) → P me x → ((i : ℕ) → P i (s i)) → (i : ℕ) → P i (upd s me x i)
-upd-each P s me x h k i = cond-both (eqb i me) x (s i) (P i) (λ e. let q : me ≡ i = sym (eqb-true i me e) in subst (λ n. P n x) q h) (λ e. k i)
-
-pub upd-at : {X : Type 0} (s : ℕ → X) (me : ℕ) (x : X) → upd s me x me ≡ x
-upd-at s me x = let e : eqb me me ≡ true = eq-eqb me me refl in rw e refl
-
-pub upd-twice : {X : Type 0} (s : ℕ → X) (i : ℕ) (x y : X) → upd (upd s i x) i y ≡ upd s i y
-upd-twice s i x y = fun-ext (λ j. go j (eqb j i) refl)
-  where
-    go : (j : ℕ) (b : Bool) → eqb j i ≡ b → upd (upd s i x) i y j ≡ upd s i y j
-    go j true e = rw e
-    go j false e = rw e
-
-pub upd-idle : {X : Type 0} (s : ℕ → X) (i : ℕ) (x : X) → s i ≡ x → upd s i x ≡ s
-upd-idle s i x e = fun-ext (λ j. go j (eqb j i) refl)
-  where
-    go : (j : ℕ) (b : Bool) → eqb j i ≡ b → upd s i x j ≡ s j
-    go j true q = let r : j ≡ i = eqb-true j i q in rw q (sym e ∙ subst (λ n. s i ≡ s n) (sym r) refl)
-    go j false q = rw q refl
 
 -- ## What a party has sent
 module _ (g : Setting) (posted more : List Msg) (j : ℕ) (i : ℕ) where
@@ -102,7 +83,7 @@ module _ (g : Setting) (hon : ℕ → Bool) (laws : Quorums (g .n) hon (quorum g
     Party′ = upd party me (s .after)
 
     view-grows : (i : ℕ) → party i .rec .view ≤ Party′ i .rec .view
-    view-grows = upd-each (λ i q. party i .rec .view ≤ q .rec .view) party me (s .after) (x .drawn .keeps .view) (λ i. omega arith)
+    view-grows = upd-ind (λ i q. party i .rec .view ≤ q .rec .view) party me (s .after) (x .drawn .keeps .view) (λ i. omega arith)
 
     row-bound : (j : ℕ) → hon j ≡ true → s .after .rows j .request ≤ party j .rec .view
     row-bound j hj =
@@ -118,7 +99,7 @@ module _ (g : Setting) (hon : ℕ → Bool) (laws : Quorums (g .n) hon (quorum g
 
     requests-kept : (i j : ℕ) → hon i ≡ true → hon j ≡ true → Party′ i .rows j .request ≤ Party′ j .rec .view
     requests-kept i j hi hj =
-        upd-each (λ i q. hon i ≡ true → q .rows j .request ≤ Party′ j .rec .view) party me (s .after)
+        upd-ind (λ i q. hon i ≡ true → q .rows j .request ≤ Party′ j .rec .view) party me (s .after)
           (λ _. let a = row-bound j hj in let b = view-grows j in omega arith)
           (λ i hi. let a = h .requests i j hi hj in let b = view-grows j in omega arith) i hi
 
@@ -132,7 +113,7 @@ module _ (g : Setting) (hon : ℕ → Bool) (laws : Quorums (g .n) hon (quorum g
         | inr o ↦
             let n = new-post y o in
             let a = n .request k .1 in
-            let b : Party′ (y .from) ≡ s .after = subst (λ i. Party′ i ≡ s .after) (sym (n .from)) (upd-at party me (s .after)) in
+            let b : Party′ (y .from) ≡ s .after = subst (λ i. Party′ i ≡ s .after) (sym (n .from)) (upd-here party me (s .after)) in
             subst (λ (q : Party). y .view ≤ q .rec .view) (sym b) (omega arith)
         ]
 
@@ -161,7 +142,7 @@ module _ (g : Setting) (hon : ℕ → Bool) (laws : Quorums (g .n) hon (quorum g
 
     sent-kept : (j i : ℕ) → hon j ≡ true → 1 ≤ i → i ≤ g .n → Sent g (posted ++ s .posts) j (Party′ j) i
     sent-kept j i hj lo hi =
-        upd-each (λ j q. hon j ≡ true → Sent g (posted ++ s .posts) j q i) party me (s .after)
+        upd-ind (λ j q. hon j ≡ true → Sent g (posted ++ s .posts) j q i) party me (s .after)
           (λ _. sent-part g posted me i (party me) s (x .gives (t .seen) i lo hi) (h .sent me i hme lo hi))
           (λ j hj. sent-more g posted (s .posts) j i (party j) (h .sent j i hj lo hi)) j hj
 
@@ -176,7 +157,7 @@ module _ (g : Setting) (hon : ℕ → Bool) (laws : Quorums (g .n) hon (quorum g
 
     mail-stay : (p : Party) → R p (still p)
     mail-stay p party posted e i t h =
-        (t, subst₂ Mailed (sym (upd-idle party me p e)) (sym (append-nil posted)) h)
+        (t, subst₂ Mailed (sym (subst (λ q. upd party me q ≡ party) e (upd-same party me))) (sym (append-nil posted)) h)
 
     mail-each : (p : Party) (s : Step) → Part g me m p s → R p s
     mail-each p s x party posted e i t h =
@@ -186,8 +167,8 @@ module _ (g : Setting) (hon : ℕ → Bool) (laws : Quorums (g .n) hon (quorum g
     mail-then : (p : Party) (s : Step) (f : Party → Step) → R p s → R (s .after) (f (s .after)) → R p (and-then s f)
     mail-then p s f a b party posted e i t h =
         let n = a party posted e i t h in
-        let k = b (upd party me (s .after)) (posted ++ s .posts) (upd-at party me (s .after)) (λ k hf. in-left m posted (s .posts) (i k hf)) (n .0) (n .1) in
-        (k .0, subst₂ Mailed (upd-twice party me (s .after) (f (s .after) .after)) (append-assoc posted (s .posts) (f (s .after) .posts)) (k .1))
+        let k = b (upd party me (s .after)) (posted ++ s .posts) (upd-here party me (s .after)) (λ k hf. in-left m posted (s .posts) (i k hf)) (n .0) (n .1) in
+        (k .0, subst₂ Mailed (upd-upd party me (s .after) (f (s .after) .after)) (append-assoc posted (s .posts) (f (s .after) .posts)) (k .1))
 
     mail-parts : Parts g me m R
     mail-parts = by-parts g me m some lo hi R mail-stay mail-each mail-then

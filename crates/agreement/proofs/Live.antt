@@ -11,13 +11,15 @@ use Rattle.std.specs.declared.option.Option.the-variants.{Some, None}
 use Rattle.std.proofs.shelf.Tests.{and-parts, and-from, or-left, or-right, or-cases, cases-lt, cases-eq, cases-bool, leb-true, le-leb, lt-ltb, ltb-true}
 use Rattle.std.proofs.shelf.Ways.{tells}
 use Rattle.values.specs.Same.{equal}
+use Rattle.values.proofs.Same.{same-from-equal, differ-from-equal, equal-from-not}
 use Rattle.messages.specs.Messages.{between}
 use Rattle.rules.specs.Party.{Setting, Keyed, Suggest, Proof, Proposal, nothing, waiting, echoed, dropped, Record, Party, none}
 use Rattle.rules.specs.Thresholds.{quorum, voucher, primary}
 use Rattle.rules.specs.Tests.{is, opens, opens-lock, bears-out, bears-key, below, up-to, lock-opened, accepts, accepted, voted, borne-out, done-vouched, done-agreed}
 use Rattle.rules.specs.Quorums.{Quorums}
 use Rattle.agreement.proofs.History.{Log, said-now}
-use Rattle.agreement.proofs.Voices.{Voiced, Voice, same-tells, unlike, not-same, from-same, is-some, some-is, voices-meet, voice, voice-meets, all-say, vouched-by}
+use Rattle.agreement.proofs.World.{some-is}
+use Rattle.agreement.proofs.Voices.{Voice, voice, voice-meets, all-say, vouched-by}
 use Rattle.agreement.proofs.LiveFacts.{suggests-to, Prompt, Contents, Safe, Backed, Offer-of, Unfit, Offers, Facts, Arrived, Dones-arrived}
 
 some-of : {X : Type 0} (o : Option X) → none o ≡ false → (x : X) × (o ≡ Some x)
@@ -151,7 +153,7 @@ module _ (g : Setting) (hon : ℕ → Bool) (laws : Quorums (g .n) hon (quorum g
           elim (cases-lt u v) [
             inl l ↦ lock-before i u z hi e l
           | inr l ↦ elim (cases-eq u v) [
-              inl q ↦ absurd (let s = lock-now i z hi (subst (λ u. log i .said 9 u ≡ Some z) q e) in unlike z (k .value) ne (sym s))
+              inl q ↦ absurd (let s = lock-now i z hi (subst (λ u. log i .said 9 u ≡ Some z) q e) in differ-from-equal z (k .value) ne (sym s))
             | inr q ↦ absurd (let w = a .view i hi in some-not-none _ z (S .later i 9 u hi (omega arith)) e)
             ]
           ]
@@ -187,8 +189,8 @@ module _ (g : Setting) (hon : ℕ → Bool) (laws : Quorums (g .n) hon (quorum g
                 inr q ↦
                   let q₁ = and-parts (leb (k .at) (party j .rec .suggest .key2 .at)) (equal (party j .rec .suggest .key2 .value) (k .value)) q in
                   let le = leb-true (k .at) (party j .rec .suggest .key2 .at) (q₁ .0) in
-                  let same = from-same (party j .rec .suggest .key2 .value) (k .value) (q₁ .1) in
-                  (party j .rec .suggest .key2 .at, party j .rec .suggest .key2 .value, omega arith, lt, c .key2 (omega arith), not-same _ _ (λ r. unlike z (k .value) ne (sym r ∙ same)))
+                  let same = same-from-equal (party j .rec .suggest .key2 .value) (k .value) (q₁ .1) in
+                  (party j .rec .suggest .key2 .at, party j .rec .suggest .key2 .value, omega arith, lt, c .key2 (omega arith), equal-from-not _ _ (λ r. differ-from-equal z (k .value) ne (sym r ∙ same)))
               | inl q ↦ early o e (p₁ .0) lt q
               ]
             where
@@ -202,7 +204,7 @@ module _ (g : Setting) (hon : ℕ → Bool) (laws : Quorums (g .n) hon (quorum g
                   elim (cases-bool (equal (o .0) z)) [
                     inr t ↦ (r, o .0, omega arith, omega arith, o .1, t)
                   | inl t ↦ (party j .rec .suggest .key2 .at, party j .rec .suggest .key2 .value, omega arith, lt, c .key2 (omega arith),
-                      not-same _ _ (λ s. unlike (o .0) _ (o .2) (from-same _ _ t ∙ sym s)))
+                      equal-from-not _ _ (λ s. differ-from-equal (o .0) _ (o .2) (same-from-equal _ _ t ∙ sym s)))
                   ]
 
       not-waiting : (i : ℕ) (x : List ℕ) → hon i ≡ true → party i .rec .proposal ≡ waiting x → ⊥

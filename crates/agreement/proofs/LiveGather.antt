@@ -16,15 +16,14 @@ use Rattle.agreement.proofs.History.{Log, note}
 use Rattle.agreement.proofs.World.{World}
 use Rattle.agreement.proofs.Fair.{RowFair, MsgFair}
 use Rattle.agreement.proofs.Invariant.{Suggested, Proved, asked-of, Inv}
-use Rattle.agreement.proofs.Sound.{Fair, Good, good-part}
+use Rattle.agreement.proofs.Sound.{upd-here, upd-upd, upd-same, Fair, Good, good-part}
 use Rattle.agreement.proofs.Upshot.{one-done}
-use Rattle.agreement.proofs.Voices.{not-same}
+use Rattle.values.proofs.Same.{equal-from-not}
 use Rattle.agreement.proofs.LiveFacts.{Prompt, Contents, Safe, Rows-say, Offer-of, Offers, Facts}
 use Rattle.agreement.proofs.Choice.{Covers, opens-by, bears-by}
 use Rattle.agreement.proofs.ChoiceKept.{Choice, choice-kept}
 use Rattle.agreement.proofs.Walk.{Parts, walk-step, walk-timer}
 use Rattle.agreement.proofs.Part.{Part, by-parts}
-use Rattle.agreement.proofs.DeliveryPart.{upd-at, upd-twice, upd-idle}
 
 module _ (w : World) (parties : ℕ → Party) (said : ℕ → Log) (inv : Inv w parties said) (c : Choice w parties said) where
   safe : Safe (w .g) (w .honest) parties said
@@ -55,7 +54,7 @@ module _ (w : World) (parties : ℕ → Party) (said : ℕ → Log) (inv : Inv w
         key3 = s .has3; before = s .earlier3;
         latest = λ u x l h. c .latest i u x hi l h;
         key2 = s .told .has;
-        previous = λ q e pos. let o = s .told .other q e pos in (o .0, o .1, not-same _ _ (o .2))
+        previous = λ q e pos. let o = s .told .other q e pos in (o .0, o .1, equal-from-not _ _ (o .2))
       }
 
   offers : Offers (w .g) (w .honest) parties said
@@ -85,7 +84,7 @@ module _ (w : World) (some : 0 < w .g .n) (me : ℕ) (m : Msg) (hme : w .honest 
   R p s = (parties : ℕ → Party) (posted : List Msg) → parties me ≡ p → Grown w m parties posted → Grown w m (upd parties me (s .after)) (posted ++ s .posts)
 
   grown-stay : (p : Party) → R p (still p)
-  grown-stay p parties posted e h = subst₂ (Grown w m) (sym (upd-idle parties me p e)) (sym (append-nil posted)) h
+  grown-stay p parties posted e h = subst₂ (Grown w m) (sym (subst (λ q. upd parties me q ≡ parties) e (upd-same parties me))) (sym (append-nil posted)) h
 
   grown-each : (p : Party) (s : Step) → Part (w .g) me m p s → R p s
   grown-each p s x parties posted e h =
@@ -98,8 +97,8 @@ module _ (w : World) (some : 0 < w .g .n) (me : ℕ) (m : Msg) (hme : w .honest 
 
   grown-then : (p : Party) (s : Step) (f : Party → Step) → R p s → R (s .after) (f (s .after)) → R p (and-then s f)
   grown-then p s f a b parties posted e h =
-      subst₂ (Grown w m) (upd-twice parties me (s .after) (f (s .after) .after)) (append-assoc posted (s .posts) (f (s .after) .posts))
-        (b (upd parties me (s .after)) (posted ++ s .posts) (upd-at parties me (s .after)) (a parties posted e h))
+      subst₂ (Grown w m) (upd-upd parties me (s .after) (f (s .after) .after)) (append-assoc posted (s .posts) (f (s .after) .posts))
+        (b (upd parties me (s .after)) (posted ++ s .posts) (upd-here parties me (s .after)) (a parties posted e h))
 
   grown-parts : Parts (w .g) me m R
   grown-parts = by-parts (w .g) me m some lo hi R grown-stay grown-each grown-then

@@ -29,12 +29,11 @@ use Rattle.agreement.proofs.Runs.{turned, Kept, run-kept}
 use Rattle.agreement.proofs.Begin.{Started, started, honest-parts, in-ring-parts}
 use Rattle.agreement.proofs.World.{World}
 use Rattle.agreement.proofs.Fair.{MsgFair}
-use Rattle.agreement.proofs.Invariant.{Inv}
+use Rattle.agreement.proofs.Invariant.{Inv, upd-ind}
 use Rattle.agreement.proofs.Sound.{Fair, Good, Laws, world}
 use Rattle.agreement.proofs.Start.{first-said, laws-first, first-inv}
 use Rattle.agreement.proofs.Mail.{In, in-all, looked-in, taken-in, in-taken}
 use Rattle.agreement.proofs.Delivery.{Delivery}
-use Rattle.agreement.proofs.DeliveryPart.{upd-each}
 use Rattle.agreement.proofs.DeliveryKept.{step-delivered, timer-delivered, swallow-delivered, lose-delivered, send-delivered}
 use Rattle.agreement.proofs.Closure.{Tallied, Waits, prompt}
 use Rattle.agreement.proofs.Prompt.{step-tallied, timer-tallied, step-waits, timer-waits}
@@ -101,9 +100,9 @@ module _ (k : Kind) where
           (record { said = a .said; good = record { inv = a .inv; fair = f; all = a .posted }; choice = a .choice }) in
       record {
         some = a .some; laws = a .laws; said = n .said; inv = n .good .inv; posted = n .good .all; choice = n .choice;
-        tallied = upd-each (λ j p. honest (h .ring) j ≡ true → Tallied (setting k (h .ring)) p) (h .ring .parties) (m .to) _
+        tallied = upd-ind (λ j p. honest (h .ring) j ≡ true → Tallied (setting k (h .ring)) p) (h .ring .parties) (m .to) _
             (λ _. step-tallied (setting k (h .ring)) (honest (h .ring)) (a .laws) (a .some) (m .to) m lo hi _ (a .tallied (m .to) to)) (a .tallied);
-        waits = upd-each (λ j p. honest (h .ring) j ≡ true → Waits (setting k (h .ring)) p) (h .ring .parties) (m .to) _
+        waits = upd-ind (λ j p. honest (h .ring) j ≡ true → Waits (setting k (h .ring)) p) (h .ring .parties) (m .to) _
             (λ _. step-waits (setting k (h .ring)) (honest (h .ring)) (a .laws) (a .some) (m .to) m lo hi _ (a .tallied (m .to) to) (a .waits (m .to) to)) (a .waits);
         delivery = step-delivered (setting k (h .ring)) (honest (h .ring)) (a .laws) (a .some) (h .ring .parties) (h .posted) (h .ring .wire) (h .lost) (a .delivery) w m to lo hi waiting
             (out-of (h .ring .wire) w i m e q) (inside-of (h .ring .wire) w i m e q) (a .tallied (m .to) to)
@@ -122,9 +121,9 @@ module _ (k : Kind) where
           (record { said = a .said; good = record { inv = a .inv; fair = λ _. tick-fair i _ _; all = a .posted }; choice = a .choice }) in
       record {
         some = a .some; laws = a .laws; said = n .said; inv = n .good .inv; posted = n .good .all; choice = n .choice;
-        tallied = upd-each (λ j p. honest (h .ring) j ≡ true → Tallied (setting k (h .ring)) p) (h .ring .parties) i _
+        tallied = upd-ind (λ j p. honest (h .ring) j ≡ true → Tallied (setting k (h .ring)) p) (h .ring .parties) i _
             (λ _. timer-tallied (setting k (h .ring)) (honest (h .ring)) (a .laws) (a .some) i (tick i) lo up (tick-kind i) _ (a .tallied i hi)) (a .tallied);
-        waits = upd-each (λ j p. honest (h .ring) j ≡ true → Waits (setting k (h .ring)) p) (h .ring .parties) i _
+        waits = upd-ind (λ j p. honest (h .ring) j ≡ true → Waits (setting k (h .ring)) p) (h .ring .parties) i _
             (λ _. timer-waits (setting k (h .ring)) (honest (h .ring)) (a .laws) (a .some) i (tick i) lo up (tick-kind i) _ (a .tallied i hi) (a .waits i hi)) (a .waits);
         delivery = timer-delivered (setting k (h .ring)) (honest (h .ring)) (a .laws) (a .some) (h .ring .parties) (h .posted) (h .ring .wire) (h .lost) (a .delivery) i (tick i) (tick-kind i) hi lo up (a .tallied i hi)
       }

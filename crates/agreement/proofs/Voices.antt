@@ -10,36 +10,12 @@ use Rattle.std.specs.declared.option.Option.{Option}
 use Rattle.std.specs.declared.option.Option.the-variants.{Some, None}
 use Rattle.std.proofs.shelf.Tests.{and-parts}
 use Rattle.std.proofs.shelf.Ways.{tells}
-use Rattle.values.specs.Same.{equal}
 use Rattle.rules.specs.Party.{Setting}
 use Rattle.rules.specs.Thresholds.{quorum, voucher}
 use Rattle.rules.specs.Tests.{is}
 use Rattle.rules.specs.Quorums.{Quorums}
 use Rattle.rules.proofs.Quorums.{quorums-meet}
-
--- sameness of bytes, with what it tells
-pub same-tells : (x y : List ℕ) → ((equal x y ≡ true) × (x ≡ y)) ⊎ ((equal x y ≡ false) × (x ≡ y → ⊥))
-same-tells [] [] = inl (refl, refl)
-same-tells [] (y ∷ ys) = inr (refl, λ e. let z : _≡_ {A = ℕ} 0 1 = cc in omega arith)
-same-tells (x ∷ xs) [] = inr (refl, λ e. let z : _≡_ {A = ℕ} 0 1 = cc in omega arith)
-same-tells (x ∷ xs) (y ∷ ys) = let ih = same-tells xs ys in grind (arith, tells)
-
-pub unlike : (x y : List ℕ) → equal x y ≡ false → x ≡ y → ⊥
-unlike x y e q = elim (same-tells x y) [ inl s ↦ let a = s .0 in let z : _≡_ {A = ℕ} 0 1 = grind arith in omega arith | inr s ↦ s .1 q ]
-
-pub not-same : (x y : List ℕ) → (x ≡ y → ⊥) → equal x y ≡ false
-not-same x y h = elim (same-tells x y) [ inl s ↦ absurd (h (s .1)) | inr s ↦ s .0 ]
-
-pub from-same : (x y : List ℕ) → equal x y ≡ true → x ≡ y
-from-same x y e = elim (same-tells x y) [ inl s ↦ s .1 | inr s ↦ let a = s .0 in absurd (let z : _≡_ {A = ℕ} 0 1 = grind arith in omega arith) ]
-
-pub is-some : (x : List ℕ) (o : Option (List ℕ)) → is x o ≡ true → o ≡ Some x
-is-some x None e = grind arith
-is-some x (Some y) e = let d = same-tells y x in grind arith
-
-pub some-is : (x : List ℕ) (o : Option (List ℕ)) → o ≡ Some x → is x o ≡ true
-some-is x None e = let z : _≡_ {A = ℕ} 0 1 = cc in grind arith
-some-is x (Some y) e = let d = same-tells y x in let q : y ≡ x = cc in grind arith
+use Rattle.agreement.proofs.World.{is-some, some-is}
 
 module _ (g : Setting) (hon : ℕ → Bool) where
   -- a quorum, each honest member of which has said x

@@ -14,6 +14,7 @@ use Rattle.messages.specs.Messages.{Msg, between}
 use Rattle.rules.specs.Party.{Setting, Proposal, nothing, waiting, echoed, dropped, Record, Row, Party, Step, with-rec, with-proposal, with-row, with-abort, still, and-then, none}
 use Rattle.rules.specs.Thresholds.{primary, vouched, reached}
 use Rattle.rules.specs.Tests.{heeded, is-nothing}
+use Rattle.agreement.proofs.Steps.{none-is}
 use Rattle.rules.specs.Step.{enter, on-request, on-suggest, echo, wake, lock-fits, may-wait, on-propose, told-proof, on-proof, on-vote, on-lock, on-done, aborts, say-abort, join-abort, leave, on-abort, on-timer, step}
 
 -- party p takes message m, of its view, whose kind is k
@@ -57,10 +58,6 @@ module _ (g : Setting) (me : ℕ) (m : Msg) where
     pub abort : (p : Party) → m .kind ≡ 11 → R p (still (raised-row p m))
     pub raise : (p : Party) (u : ℕ) → Turn m → p .rows me .abort < u → R p (say-abort g me p u)
     pub then : (p : Party) (s : Step) (f : Party → Step) → R p s → R (s .after) (f (s .after)) → R p (and-then s f)
-
-  is-none : {X : Type 0} (o : Option X) → none o ≡ true → o ≡ None
-  is-none None e = refl
-  is-none (Some x) e = absurd (let z : _≡_ {A = ℕ} 0 1 = grind arith in omega arith)
 
   is-fresh : (x : Proposal) → is-nothing g x ≡ true → x ≡ nothing
   is-fresh nothing e = refl
@@ -132,23 +129,23 @@ module _ (g : Setting) (me : ℕ) (m : Msg) where
           (λ h.
             cond-both (eqb (m .kind) 1) _ _ (R p) (λ e. let k = eqb-true _ _ e in parts .request p k (heeds-request p h k))
             (λ n₁. cond-both (eqb (m .kind) 2) _ _ (R p)
-              (λ e. let k = eqb-true _ _ e in parts .suggest p (k, heeds-view p h (omega arith) (omega arith)) (is-none _ (heeds-suggest p h k)))
+              (λ e. let k = eqb-true _ _ e in parts .suggest p (k, heeds-view p h (omega arith) (omega arith)) (none-is _ (heeds-suggest p h k)))
             (λ n₂. cond-both (eqb (m .kind) 3) _ _ (R p)
-              (λ e. let k = eqb-true _ _ e in walk-proof p (k, heeds-view p h (omega arith) (omega arith)) (is-none _ (heeds-proof p h k)))
+              (λ e. let k = eqb-true _ _ e in walk-proof p (k, heeds-view p h (omega arith) (omega arith)) (none-is _ (heeds-proof p h k)))
             (λ n₃. cond-both (eqb (m .kind) 4) _ _ (R p)
               (λ e. let k = eqb-true _ _ e in let q = heeds-propose p h k in walk-propose p (k, heeds-view p h (omega arith) (omega arith)) (q .0) (is-fresh _ (q .1)))
             (λ n₄. let r = heeds-kind p h in
               let lo : 5 ≤ m .kind = let a = eqb-false _ _ n₁ in let b = eqb-false _ _ n₂ in let c = eqb-false _ _ n₃ in let d = eqb-false _ _ n₄ in omega arith in
               cond-both (leb (m .kind) 7) _ _ (R p)
-              (λ e. let k = leb-true _ _ e in parts .vote p lo (omega arith) (heeds-view p h (omega arith) (omega arith)) (is-none _ (heeds-vote p h lo (omega arith))))
+              (λ e. let k = leb-true _ _ e in parts .vote p lo (omega arith) (heeds-view p h (omega arith) (omega arith)) (none-is _ (heeds-vote p h lo (omega arith))))
             (λ n₅. cond-both (eqb (m .kind) 8) _ _ (R p)
               (λ e. let k = eqb-true _ _ e in
-                parts .then p (on-vote g me p m) (wake g me) (parts .vote p lo (omega arith) (heeds-view p h (omega arith) (omega arith)) (is-none _ (heeds-vote p h lo (omega arith)))) (parts .wake _ (inr (inr k))))
+                parts .then p (on-vote g me p m) (wake g me) (parts .vote p lo (omega arith) (heeds-view p h (omega arith) (omega arith)) (none-is _ (heeds-vote p h lo (omega arith)))) (parts .wake _ (inr (inr k))))
             (λ n₆. cond-both (eqb (m .kind) 9) _ _ (R p)
               (λ e. let k = eqb-true _ _ e in parts .lock p (k, heeds-view p h (omega arith) (omega arith))
-                (subst (λ i. p .rows (m .from) .vote i ≡ None) k (is-none _ (heeds-vote p h lo (omega arith)))))
+                (subst (λ i. p .rows (m .from) .vote i ≡ None) k (none-is _ (heeds-vote p h lo (omega arith)))))
             (λ n₇. cond-both (eqb (m .kind) 10) _ _ (R p)
-              (λ e. let k = eqb-true _ _ e in parts .done p k (is-none _ (heeds-done p h k)))
+              (λ e. let k = eqb-true _ _ e in parts .done p k (none-is _ (heeds-done p h k)))
               (λ n₈. walk-abort p (let a = leb-false _ _ n₅ in let b = eqb-false _ _ n₆ in let c = eqb-false _ _ n₇ in let d = eqb-false _ _ n₈ in omega arith))))))))))
           (λ h. parts .stay p)
 
