@@ -1,25 +1,19 @@
 -- What keys, suggests and proofs leave out of all that was said, what stands behind an offer, and why a proposal was dropped.
-use Prim.Native.Nat.{ℕ, zero, suc, _+_, _≤_, _<_}
+use Prim.Native.Nat.{ℕ, zero, suc, _≤_, _<_}
 use mathlib.Core.Bool.{Bool, true, false, cond, _&&_, _||_, not}
-use mathlib.Core.Path.{_≡_, refl, sym, _∙_, subst, ap}
+use mathlib.Core.Path.{_≡_, refl, sym, _∙_, subst}
 use mathlib.Core.Logic.{_⊎_, inl, inr}
 use mathlib.Core.List.{List}
 use native.Mathlib.Omega.{arith}
-use lib.Dec.{leb, ltb, eqb}
+use lib.Dec.{leb, ltb}
 use Rattle.std.specs.declared.option.Option.{Option}
 use Rattle.std.specs.declared.option.Option.the-variants.{Some, None}
-use Rattle.std.proofs.shelf.Tests.{and-parts, or-cases, cases-eq, cases-lt, cases-bool, leb-true, le-leb, ltb-true, both-ways, eqb-true}
+use Rattle.std.proofs.shelf.Tests.{cases-lt, leb-true, le-leb, ltb-true, both-ways}
 use Rattle.std.proofs.shelf.Ways.{tells}
 use Rattle.values.specs.Same.{equal}
-use Rattle.messages.specs.Messages.{Msg}
-use Rattle.rules.specs.Counting.{upd}
-use Rattle.rules.specs.Party.{Setting, Keyed, Suggest, Proof, Proposal, nothing, waiting, echoed, dropped, Record, Row, Party, Step, none}
-use Rattle.rules.specs.Thresholds.{quorum, voucher, primary}
-use Rattle.rules.specs.Tests.{below, up-to, opens, bears-out, bears-key, accepts, accepted, borne-out, higher, best}
-use Rattle.agreement.proofs.History.{Log, said-now, note}
-use Rattle.agreement.proofs.LiveFacts.{suggests-to, Backed, Unfit}
+use Rattle.rules.specs.Party.{Setting, Keyed, Suggest, Proof, Party}
+use Rattle.rules.specs.Tests.{below, up-to, opens, bears-out, accepts, accepted, higher, best}
 use Rattle.values.proofs.Same.{same-from-equal, equal-from}
-use Rattle.agreement.proofs.World.{World}
 
 -- a key with its previous one covers all that was said by its stage before view w: said no later than the previous key, or the key's value no later than the key
 pub record Covers (log : ℕ → Option (List ℕ)) (w : ℕ) (key : Keyed) (previous : Option ℕ) : Type 0 where

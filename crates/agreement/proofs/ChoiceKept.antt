@@ -1,27 +1,27 @@
 -- One part of a step of an honest party keeps what keys cover, what stands behind offers, and why proposals were dropped.
-use Prim.Native.Nat.{ℕ, zero, suc, _+_, _≤_, _<_}
+use Prim.Native.Nat.{ℕ, _≤_, _<_}
 use mathlib.Core.Bool.{Bool, true, false, cond, _&&_, _||_, not}
-use mathlib.Core.Path.{_≡_, refl, sym, _∙_, subst, subst₂, ap}
+use mathlib.Core.Path.{_≡_, refl, sym, _∙_, subst, subst₂}
 use mathlib.Core.Logic.{_⊎_, inl, inr}
 use mathlib.Core.List.{List}
 use native.Mathlib.Omega.{arith}
-use lib.Dec.{leb, ltb, eqb}
+use lib.Dec.{ltb, eqb}
 use Rattle.std.specs.declared.option.Option.{Option}
 use Rattle.std.specs.declared.option.Option.the-variants.{Some, None}
-use Rattle.std.proofs.shelf.Tests.{and-parts, or-cases, cases-eq, cases-lt, cases-bool, leb-true, le-leb, ltb-true, both-ways, eqb-true, ne-eqb, eq-eqb}
+use Rattle.std.proofs.shelf.Tests.{and-parts, or-cases, cases-eq, cases-lt, le-leb, ltb-true, both-ways, eqb-true, ne-eqb, eq-eqb}
 use Rattle.std.proofs.shelf.Ways.{tells}
 use Rattle.values.specs.Same.{equal}
 use Rattle.messages.specs.Messages.{Msg}
 use Rattle.rules.specs.Counting.{upd}
-use Rattle.rules.specs.Party.{Setting, Keyed, Suggest, Proof, Proposal, nothing, waiting, echoed, dropped, Record, Row, Party, Step, none}
-use Rattle.rules.specs.Thresholds.{quorum, voucher, primary}
-use Rattle.rules.specs.Tests.{below, up-to, bears-key, accepts, accepted, borne-out, best}
+use Rattle.rules.specs.Party.{Keyed, Suggest, Proof, dropped, Record, Party}
+use Rattle.rules.specs.Thresholds.{quorum, primary}
+use Rattle.rules.specs.Tests.{up-to, bears-key, accepts, accepted, borne-out, best}
 use Rattle.rules.specs.Step.{keeps-previous}
 use Rattle.agreement.proofs.History.{Log, said-now, note}
 use Rattle.agreement.proofs.Effects.{Effect, Field}
 use Rattle.agreement.proofs.World.{World, none-some}
-use Rattle.agreement.proofs.Notes.{LogOk, Still, Grows, same-log, log-grows}
-use Rattle.agreement.proofs.Fair.{RowFair, MsgFair}
+use Rattle.agreement.proofs.Notes.{Grows, same-log, log-grows}
+use Rattle.agreement.proofs.Fair.{MsgFair}
 use Rattle.agreement.proofs.Invariant.{Inv, upd-ind, upd-ind₂, rows-now}
 use Rattle.agreement.proofs.LiveFacts.{suggests-to, Backed, Unfit}
 use Rattle.agreement.proofs.Drawn.{Misfits, Drops}

@@ -1,28 +1,27 @@
 -- Every rule that begins with "once" is followed at once: kept by each part of a step.
-use Prim.Native.Nat.{ℕ, zero, suc, _+_, _≤_, _<_, max}
-use mathlib.Core.Bool.{Bool, true, false, cond, _&&_, _||_, not}
+use Prim.Native.Nat.{ℕ, zero, suc, _≤_, _<_}
+use mathlib.Core.Bool.{Bool, true, false, _&&_, _||_}
 use mathlib.Core.Path.{_≡_, refl, sym, _∙_, subst}
 use mathlib.Core.Logic.{_⊎_, inl, inr}
-use mathlib.Core.List.{List, [], _∷_, _++_}
+use mathlib.Core.List.{List}
 use native.Mathlib.Omega.{arith}
-use lib.Dec.{leb, ltb, eqb}
+use lib.Dec.{ltb, eqb}
 use Rattle.std.specs.declared.option.Option.{Option}
 use Rattle.std.specs.declared.option.Option.the-variants.{Some, None}
-use Rattle.std.proofs.shelf.Tests.{cond-both, and-parts, and-from, or-cases, or-left, or-right, or-parts, cases-eq, cases-lt, cases-bool, eqb-true, eqb-false, eq-eqb, leb-true, both-ways}
+use Rattle.std.proofs.shelf.Tests.{and-parts, and-from, or-cases, or-left, or-right, or-parts, cases-eq, cases-lt, cases-bool, eqb-true, eqb-false, eq-eqb, both-ways}
 use Rattle.std.proofs.shelf.Ways.{tells}
 use Rattle.values.specs.Same.{equal}
-use Rattle.messages.specs.Messages.{Msg, between}
-use Rattle.rules.specs.Party.{Setting, Keyed, Suggest, Proof, Proposal, nothing, waiting, echoed, dropped, Record, Row, Party, Step, none}
-use Rattle.rules.specs.Thresholds.{primary, quorum, voucher}
-use Rattle.rules.specs.Tests.{is, bears-key, bears-out, opens-lock, lock-opened, accepts, accepted, borne-out, voted, done-vouched, done-agreed, higher, best, is-nothing}
-use Rattle.rules.specs.Step.{echo, wake, wake-proposal}
+use Rattle.messages.specs.Messages.{Msg}
+use Rattle.rules.specs.Party.{Setting, Keyed, Suggest, Proposal, nothing, waiting, echoed, dropped, Party, none}
+use Rattle.rules.specs.Thresholds.{quorum, voucher}
+use Rattle.rules.specs.Tests.{is, bears-key, opens-lock, lock-opened, accepts, accepted, borne-out, voted, done-vouched, done-agreed, higher, best}
 use Rattle.rules.specs.Quorums.{Quorums}
 use Rattle.rules.proofs.Quorums.{quorums-meet}
-use Rattle.agreement.proofs.Effects.{Effect, E}
+use Rattle.agreement.proofs.Effects.{Effect}
 use Rattle.values.proofs.Same.{same-from-equal}
 use Rattle.agreement.proofs.World.{is-some}
 use Rattle.agreement.proofs.LiveFacts.{Prompt}
-use Rattle.agreement.proofs.Drawn.{Keeps, Draws, Drops, D}
+use Rattle.agreement.proofs.Drawn.{Keeps, Draws}
 
 -- ## What holds between the parts of a step
 pub record Tallied (g : Setting) (p : Party) : Type 0 where

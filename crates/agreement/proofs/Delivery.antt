@@ -1,11 +1,10 @@
 -- What is posted between honest parties is waiting, lost or taken in; what is made goes to all that have asked for the view.
-use Prim.Native.Nat.{ℕ, zero, suc, _+_, _≤_, _<_}
-use mathlib.Core.Bool.{Bool, true, false, cond}
+use Prim.Native.Nat.{ℕ, _≤_}
+use mathlib.Core.Bool.{Bool, true, false}
 use mathlib.Core.Path.{_≡_}
 use mathlib.Core.Logic.{_⊎_}
 use mathlib.Core.List.{List}
-use Rattle.std.specs.declared.option.Option.{Option}
-use Rattle.std.specs.declared.option.Option.the-variants.{Some, None}
+use Rattle.std.specs.declared.option.Option.the-variants.{Some}
 use Rattle.messages.specs.Messages.{Msg}
 use Rattle.rules.specs.Party.{Setting, Keyed, Party}
 use Rattle.rules.specs.Thresholds.{primary}

@@ -1,33 +1,26 @@
 -- Delivery is kept by every call: a message that waits is handed and taken in, or lost, or waits on.
-use Prim.Native.Nat.{ℕ, zero, suc, _+_, _≤_, _<_, max}
-use mathlib.Core.Bool.{Bool, true, false, cond, _&&_, _||_, not}
-use mathlib.Core.Path.{_≡_, refl, sym, _∙_, subst, subst₂}
+use Prim.Native.Nat.{ℕ, _≤_, _<_}
+use mathlib.Core.Bool.{Bool, true, false}
+use mathlib.Core.Path.{_≡_, refl, sym, subst}
 use mathlib.Core.Logic.{_⊎_, inl, inr}
 use mathlib.Core.List.{List, [], _∷_, _++_}
 use native.Mathlib.Omega.{arith}
-use lib.Dec.{leb, ltb, eqb}
-use Rattle.std.specs.declared.option.Option.{Option}
-use Rattle.std.specs.declared.option.Option.the-variants.{Some, None}
-use Rattle.std.specs.declared.result.Result.{Result}
-use Rattle.std.specs.declared.result.Result.the-variants.{Ok, Err}
-use Rattle.std.proofs.shelf.Tests.{cases-eq, both-ways}
-use Rattle.std.proofs.shelf.Ways.{tells}
+use Rattle.std.proofs.shelf.Tests.{both-ways}
 use Rattle.messages.specs.Messages.{Msg}
-use Rattle.wires.specs.Wire.{looked, taken}
 use Rattle.rules.specs.Counting.{upd}
-use Rattle.rules.specs.Party.{Setting, Keyed, Party, Step, still, and-then, none}
-use Rattle.rules.specs.Thresholds.{primary, quorum, voucher}
-use Rattle.rules.specs.Tests.{heeded, is-nothing}
+use Rattle.rules.specs.Party.{Setting, Party}
+use Rattle.rules.specs.Thresholds.{quorum, voucher}
+use Rattle.rules.specs.Tests.{heeded}
 use Rattle.rules.specs.Step.{step, on-timer}
 use Rattle.rules.specs.Quorums.{Quorums}
 use Rattle.agreement.proofs.Invariant.{upd-ind}
 use Rattle.agreement.proofs.Sound.{upd-here}
-use Rattle.agreement.proofs.Mail.{In, in-left, in-right, in-append, in-one, in-only, in-none, looked-in, taken-in, in-taken}
+use Rattle.agreement.proofs.Mail.{In, in-left, in-right, in-append, in-one, in-only}
 use Rattle.agreement.proofs.Walk.{Parts, walk-step, walk-timer}
-use Rattle.agreement.proofs.Drawn.{Keeps, D}
+use Rattle.agreement.proofs.Drawn.{Keeps}
 use Rattle.agreement.proofs.Closure.{Tallied}
-use Rattle.agreement.proofs.Part.{Part, by-parts}
-use Rattle.agreement.proofs.Delivery.{Sent, Spent, Delivery}
+use Rattle.agreement.proofs.Part.{by-parts}
+use Rattle.agreement.proofs.Delivery.{Delivery}
 use Rattle.agreement.proofs.DeliverySpent.{spent-kept, spent-now}
 use Rattle.agreement.proofs.DeliveryPart.{sent-more, Mailed, step-mailed, timer-mailed}
 

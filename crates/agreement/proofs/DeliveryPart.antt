@@ -1,29 +1,23 @@
 -- Delivery by one part of a step: what is owed is posted, and a message of a view goes only to a party that has entered it.
-use Prim.Native.Nat.{ℕ, zero, suc, _+_, _≤_, _<_, max}
-use mathlib.Core.Bool.{Bool, true, false, cond, _&&_, _||_, not}
-use mathlib.Core.Path.{_≡_, refl, sym, _∙_, subst, subst₂, fun-ext}
-use mathlib.Core.Logic.{_⊎_, inl, inr}
-use mathlib.Core.List.{List, [], _∷_, _++_, append-assoc, append-nil}
+use Prim.Native.Nat.{ℕ, _≤_, _<_}
+use mathlib.Core.Bool.{Bool, true}
+use mathlib.Core.Path.{_≡_, refl, sym, subst, subst₂}
+use mathlib.Core.Logic.{inl, inr}
+use mathlib.Core.List.{List, _++_, append-assoc, append-nil}
 use native.Mathlib.Omega.{arith}
-use lib.Dec.{leb, ltb, eqb}
-use Rattle.std.specs.declared.option.Option.{Option}
-use Rattle.std.specs.declared.option.Option.the-variants.{Some, None}
-use Rattle.std.proofs.shelf.Tests.{cond-both, cases-eq, cases-lt, cases-bool, eqb-true, eqb-false, eq-eqb, leb-true}
-use Rattle.std.proofs.shelf.Ways.{tells}
+use Rattle.std.proofs.shelf.Tests.{cases-eq}
 use Rattle.messages.specs.Messages.{Msg}
 use Rattle.rules.specs.Counting.{upd}
-use Rattle.rules.specs.Party.{Setting, Keyed, Party, Step, still, and-then, none}
+use Rattle.rules.specs.Party.{Setting, Party, Step, still, and-then}
 use Rattle.rules.specs.Thresholds.{primary, quorum, voucher}
 use Rattle.rules.specs.Posts.{view-msg, suggest-msg, proof-msg, propose-msg, vote-msg}
 use Rattle.rules.specs.Step.{step, on-timer}
 use Rattle.rules.specs.Quorums.{Quorums}
-use Rattle.agreement.proofs.History.{said-now}
-use Rattle.agreement.proofs.Posts.{Post, Posts}
+use Rattle.agreement.proofs.Posts.{Post}
 use Rattle.agreement.proofs.Invariant.{upd-ind}
 use Rattle.agreement.proofs.Sound.{upd-here, upd-upd, upd-same}
 use Rattle.agreement.proofs.Mail.{In, in-left, in-right, in-append, in-all}
 use Rattle.agreement.proofs.Walk.{Parts, walk-step, walk-timer}
-use Rattle.agreement.proofs.Drawn.{Keeps, D}
 use Rattle.agreement.proofs.Gives.{Gives}
 use Rattle.agreement.proofs.Closure.{Tallied}
 use Rattle.agreement.proofs.Part.{Part, by-parts}

@@ -1,21 +1,19 @@
 -- A message that was taken in, or came too late, is never heeded again.
-use Prim.Native.Nat.{ℕ, zero, suc, _+_, _≤_, _<_, max}
-use mathlib.Core.Bool.{Bool, true, false, cond, _&&_, _||_, not}
-use mathlib.Core.Path.{_≡_, refl, sym, _∙_, subst}
-use mathlib.Core.Logic.{_⊎_, inl, inr}
-use mathlib.Core.List.{List, [], _∷_, _++_}
+use Prim.Native.Nat.{ℕ, _≤_}
+use mathlib.Core.Bool.{false, cond, _&&_, _||_, not}
+use mathlib.Core.Path.{_≡_, refl}
+use mathlib.Core.Logic.{inl, inr}
 use native.Mathlib.Omega.{arith}
-use lib.Dec.{leb, ltb, eqb}
+use lib.Dec.{leb, eqb}
 use Rattle.std.specs.declared.option.Option.{Option}
 use Rattle.std.specs.declared.option.Option.the-variants.{Some, None}
-use Rattle.std.proofs.shelf.Tests.{cond-both, cases-eq, cases-lt, cases-bool, eqb-true, eqb-false, leb-true, leb-false}
+use Rattle.std.proofs.shelf.Tests.{cond-both, cases-eq, eqb-true, eqb-false, leb-true, leb-false}
 use Rattle.std.proofs.shelf.Ways.{tells}
 use Rattle.values.specs.Same.{equal}
-use Rattle.messages.specs.Messages.{Msg, between}
-use Rattle.rules.specs.Party.{Setting, Suggest, Proposal, nothing, waiting, echoed, dropped, Party, Step, still, and-then, none}
-use Rattle.rules.specs.Thresholds.{primary, quorum, voucher}
-use Rattle.rules.specs.Tests.{lock-opened, heeded, is-nothing, voted, done-vouched, done-agreed, best, accepted}
-use Rattle.rules.specs.Step.{on-request, told-suggest, propose, propose-due, on-suggest, echo, wake, wake-proposal, lock-fits, may-wait, on-propose, told-proof, on-proof, told-vote, announce-due, on-vote, told-done, say-done, decide, on-lock, on-done, react, step}
+use Rattle.messages.specs.Messages.{Msg}
+use Rattle.rules.specs.Party.{Setting, Suggest, Proposal, nothing, waiting, echoed, dropped, Party, Step, and-then, none}
+use Rattle.rules.specs.Tests.{lock-opened, heeded, voted, done-vouched, done-agreed}
+use Rattle.rules.specs.Step.{on-request, told-suggest, propose, propose-due, on-suggest, wake, wake-proposal, lock-fits, may-wait, on-propose, told-proof, on-proof, told-vote, announce-due, on-vote, told-done, say-done, decide, on-lock, on-done, step}
 use Rattle.agreement.proofs.Drawn.{Keeps}
 
 -- ## What was not heeded stays so

@@ -1,22 +1,19 @@
 -- More of what one part of a step does: what it never takes back, what it draws from a full tally, and why it drops a proposal.
-use Prim.Native.Nat.{ℕ, zero, suc, _+_, _≤_, _<_, max}
-use mathlib.Core.Bool.{Bool, true, false, cond, _&&_, _||_, not}
-use mathlib.Core.Path.{_≡_, refl, sym, _∙_, subst}
-use mathlib.Core.Logic.{_⊎_, inl, inr}
-use mathlib.Core.List.{List, [], _∷_, _++_}
+use Prim.Native.Nat.{ℕ, suc, _≤_, _<_}
+use mathlib.Core.Bool.{true, false, _&&_, _||_}
+use mathlib.Core.Path.{_≡_, refl}
+use mathlib.Core.Logic.{_⊎_}
 use native.Mathlib.Omega.{arith}
-use lib.Dec.{leb, ltb, eqb}
 use Rattle.std.specs.declared.option.Option.{Option}
 use Rattle.std.specs.declared.option.Option.the-variants.{Some, None}
-use Rattle.std.proofs.shelf.Tests.{cond-both, and-parts, eqb-true, leb-true}
+use Rattle.std.proofs.shelf.Tests.{cond-both}
 use Rattle.std.proofs.shelf.Ways.{tells}
 use Rattle.values.specs.Same.{equal}
-use Rattle.messages.specs.Messages.{Msg, between}
-use Rattle.rules.specs.Counting.{upd}
-use Rattle.rules.specs.Party.{Setting, Keyed, Suggest, Proof, Proposal, nothing, waiting, echoed, dropped, Record, Row, Party, Step, with-rec, with-proposal, with-row, with-abort, still, and-then, none}
-use Rattle.rules.specs.Thresholds.{primary, quorum, voucher}
+use Rattle.messages.specs.Messages.{Msg}
+use Rattle.rules.specs.Party.{Setting, Suggest, Proposal, nothing, waiting, echoed, dropped, Party, Step, still, and-then, none}
+use Rattle.rules.specs.Thresholds.{primary, quorum}
 use Rattle.rules.specs.Tests.{lock-opened, accepted, voted, done-vouched, done-agreed, best, is-nothing}
-use Rattle.rules.specs.Step.{enter, on-request, told-suggest, propose, propose-due, on-suggest, echo, wake, wake-proposal, lock-fits, may-wait, told-proof, told-vote, announce-due, on-vote, on-lock, say-done, told-done, decide, on-done, say-abort}
+use Rattle.rules.specs.Step.{enter, on-request, told-suggest, propose, propose-due, on-suggest, echo, wake-proposal, lock-fits, may-wait, told-proof, told-vote, announce-due, on-vote, on-lock, say-done, told-done, decide, on-done, say-abort}
 use Rattle.agreement.proofs.Walk.{Now, Turn, Wakes, raised-row, proposed}
 
 -- ## What a part never takes back

@@ -1,27 +1,25 @@
 -- What a part of a step makes goes to every party that has asked for the view, and what it sends goes to all.
-use Prim.Native.Nat.{ℕ, zero, suc, _+_, _≤_, _<_, max}
-use mathlib.Core.Bool.{Bool, true, false, cond, _&&_, _||_, not}
+use Prim.Native.Nat.{ℕ, suc, _≤_, _<_}
+use mathlib.Core.Bool.{true, cond, _&&_, _||_}
 use mathlib.Core.Path.{_≡_, refl, sym, _∙_, subst}
 use mathlib.Core.Logic.{_⊎_, inl, inr}
 use mathlib.Core.List.{List, [], _∷_, _++_}
 use native.Mathlib.Omega.{arith}
-use lib.Dec.{leb, ltb, eqb}
+use lib.Dec.{eqb}
 use Rattle.std.specs.declared.option.Option.{Option}
 use Rattle.std.specs.declared.option.Option.the-variants.{Some, None}
-use Rattle.std.proofs.shelf.Tests.{cond-both, and-parts, eqb-true, eq-eqb, leb-true, cases-eq}
+use Rattle.std.proofs.shelf.Tests.{cond-both, eq-eqb, cases-eq}
 use Rattle.std.proofs.shelf.Ways.{tells}
 use Rattle.values.specs.Same.{equal}
-use Rattle.messages.specs.Messages.{Msg, between}
-use Rattle.rules.specs.Counting.{upd}
-use Rattle.rules.specs.Party.{Setting, Keyed, Suggest, Proof, Proposal, nothing, waiting, echoed, dropped, Record, Row, Party, Step, with-rec, with-proposal, with-row, with-abort, still, and-then, none}
-use Rattle.rules.specs.Thresholds.{primary, quorum, voucher}
-use Rattle.rules.specs.Posts.{to-each, view-msg, suggest-msg, proof-msg, propose-msg, vote-msg, to-all, to-joined, made-offer, made-echo, made-vote, made, suggest-to}
-use Rattle.rules.specs.Tests.{lock-opened, accepted, voted, done-vouched, done-agreed, best, is-nothing}
-use Rattle.rules.specs.Step.{enter, on-request, told-suggest, propose, propose-due, on-suggest, echo, wake-proposal, told-proof, told-vote, announce, announce-due, on-vote, on-lock, say-done, told-done, decide, on-done, say-abort}
+use Rattle.messages.specs.Messages.{Msg}
+use Rattle.rules.specs.Party.{Setting, Keyed, Suggest, Proposal, nothing, waiting, echoed, dropped, Record, Party, Step, still, and-then, none}
+use Rattle.rules.specs.Thresholds.{primary}
+use Rattle.rules.specs.Posts.{view-msg, suggest-msg, proof-msg, propose-msg, vote-msg, to-all, to-joined, made-offer, made-echo, made-vote, made, suggest-to}
+use Rattle.rules.specs.Tests.{lock-opened, voted, done-vouched, done-agreed}
+use Rattle.rules.specs.Step.{enter, on-request, told-suggest, propose, propose-due, on-suggest, echo, wake-proposal, told-proof, told-vote, announce-due, on-vote, on-lock, say-done, told-done, decide, on-done, say-abort}
 use Rattle.agreement.proofs.History.{said-now, echo-of}
-use Rattle.agreement.proofs.Mail.{In, in-left, in-right, in-append, in-one, in-first, in-later, in-if, in-each}
-use Rattle.agreement.proofs.Walk.{Now, Turn, Wakes, raised-row, proposed}
-use Rattle.agreement.proofs.Delivery.{Sent}
+use Rattle.agreement.proofs.Mail.{In, in-left, in-right, in-one, in-first, in-later, in-if, in-each}
+use Rattle.agreement.proofs.Walk.{raised-row, proposed}
 
 -- each message that party j is owed is owed already, or is posted
 pub record Gives (g : Setting) (me : ℕ) (p : Party) (j : ℕ) (s : Step) : Type 0 where

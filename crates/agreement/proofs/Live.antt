@@ -1,26 +1,25 @@
 -- The second count of one state: if all that the honest parties said has arrived in one view with an honest primary, they have decided.
-use Prim.Native.Nat.{ℕ, zero, suc, _+_, _≤_, _<_}
-use mathlib.Core.Bool.{Bool, true, false, cond, _&&_, _||_, not}
+use Prim.Native.Nat.{ℕ, suc, _≤_, _<_}
+use mathlib.Core.Bool.{Bool, true, false, _&&_, _||_}
 use mathlib.Core.Path.{_≡_, refl, sym, _∙_, ap, subst}
-use mathlib.Core.Logic.{_⊎_, inl, inr}
+use mathlib.Core.Logic.{inl, inr}
 use mathlib.Core.List.{List}
 use native.Mathlib.Omega.{arith}
 use lib.Dec.{eqb, leb, ltb}
 use Rattle.std.specs.declared.option.Option.{Option}
 use Rattle.std.specs.declared.option.Option.the-variants.{Some, None}
-use Rattle.std.proofs.shelf.Tests.{and-parts, and-from, or-left, or-right, or-cases, cases-lt, cases-eq, cases-bool, leb-true, le-leb, lt-ltb, ltb-true}
+use Rattle.std.proofs.shelf.Tests.{and-parts, and-from, or-left, or-right, or-cases, cases-lt, cases-eq, cases-bool, leb-true, lt-ltb, ltb-true}
 use Rattle.std.proofs.shelf.Ways.{tells}
 use Rattle.values.specs.Same.{equal}
 use Rattle.values.proofs.Same.{same-from-equal, differ-from-equal, equal-from-not}
-use Rattle.messages.specs.Messages.{between}
-use Rattle.rules.specs.Party.{Setting, Keyed, Suggest, Proof, Proposal, nothing, waiting, echoed, dropped, Record, Party, none}
+use Rattle.rules.specs.Party.{Setting, Keyed, Proposal, nothing, waiting, echoed, dropped, Party, none}
 use Rattle.rules.specs.Thresholds.{quorum, voucher, primary}
-use Rattle.rules.specs.Tests.{is, opens, opens-lock, bears-out, bears-key, below, up-to, lock-opened, accepts, accepted, voted, borne-out, done-vouched, done-agreed}
+use Rattle.rules.specs.Tests.{is, opens, opens-lock, bears-out, bears-key, below, up-to, accepted}
 use Rattle.rules.specs.Quorums.{Quorums}
 use Rattle.agreement.proofs.History.{Log, said-now}
 use Rattle.agreement.proofs.World.{some-is}
 use Rattle.agreement.proofs.Voices.{Voice, voice, voice-meets, all-say, vouched-by}
-use Rattle.agreement.proofs.LiveFacts.{suggests-to, Prompt, Contents, Safe, Backed, Offer-of, Unfit, Offers, Facts, Arrived, Dones-arrived}
+use Rattle.agreement.proofs.LiveFacts.{suggests-to, Contents, Safe, Backed, Offer-of, Unfit, Facts, Arrived, Dones-arrived}
 
 some-of : {X : Type 0} (o : Option X) → none o ≡ false → (x : X) × (o ≡ Some x)
 some-of None e = absurd (let z : _≡_ {A = ℕ} 0 1 = grind arith in omega arith)

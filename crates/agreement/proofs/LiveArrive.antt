@@ -1,25 +1,24 @@
 -- Once no message between honest parties waits or was lost, all that they have said has arrived; so nobody is left open.
-use Prim.Native.Nat.{ℕ, zero, suc, _+_, _≤_, _<_}
-use mathlib.Core.Bool.{Bool, true, false, cond, _&&_, _||_, not}
+use Prim.Native.Nat.{ℕ, zero, suc, _≤_}
+use mathlib.Core.Bool.{Bool, true, false}
 use mathlib.Core.Path.{_≡_, refl, sym, _∙_, ap, subst}
 use mathlib.Core.Logic.{_⊎_, inl, inr}
 use mathlib.Core.List.{List}
 use native.Mathlib.Omega.{arith}
-use lib.Dec.{eqb, leb, ltb}
 use Rattle.std.specs.declared.option.Option.{Option}
 use Rattle.std.specs.declared.option.Option.the-variants.{Some, None}
-use Rattle.std.proofs.shelf.Tests.{cases-bool, cases-lt}
+use Rattle.std.proofs.shelf.Tests.{cases-lt}
 use Rattle.std.proofs.shelf.Ways.{tells}
-use Rattle.messages.specs.Messages.{Msg, between}
-use Rattle.rules.specs.Party.{Setting, Keyed, Suggest, Proof, Proposal, nothing, waiting, echoed, dropped, Record, Party, none}
+use Rattle.messages.specs.Messages.{Msg}
+use Rattle.rules.specs.Party.{Setting, Keyed, Suggest, Proof, nothing, Party, none}
 use Rattle.rules.specs.Thresholds.{quorum, voucher, primary}
 use Rattle.rules.specs.Posts.{view-msg, suggest-msg, proof-msg, propose-msg, vote-msg}
 use Rattle.rules.specs.Tests.{heeded, is-nothing}
 use Rattle.rules.specs.Quorums.{Quorums}
 use Rattle.agreement.proofs.History.{Log, said-now}
 use Rattle.agreement.proofs.Mail.{In}
-use Rattle.agreement.proofs.LiveFacts.{Safe, Offers, Facts, Rows-say, Arrived, Dones-arrived}
-use Rattle.agreement.proofs.Delivery.{Sent, Spent, Delivery}
+use Rattle.agreement.proofs.LiveFacts.{Facts, Arrived, Dones-arrived}
+use Rattle.agreement.proofs.Delivery.{Delivery}
 use Rattle.agreement.proofs.Live.{one-decided, none-open}
 
 -- a message of each kind that an open party in its view does not heed is stored already

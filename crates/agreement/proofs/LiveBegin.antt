@@ -1,27 +1,23 @@
 -- What the second count rests on holds after an accepted set-up: nobody has asked yet, and every honest party has sent its request.
-use Prim.Native.Nat.{ℕ, zero, suc, _+_, _≤_, _<_}
-use mathlib.Core.Bool.{Bool, true, false, cond, _&&_, _||_, not}
-use mathlib.Core.Path.{_≡_, refl, sym, _∙_, subst, ap}
-use mathlib.Core.Logic.{_⊎_, inl, inr}
-use mathlib.Core.List.{List, [], _∷_, _++_}
+use Prim.Native.Nat.{ℕ, zero, suc, _≤_}
+use mathlib.Core.Bool.{Bool, true, false, cond}
+use mathlib.Core.Path.{_≡_, refl, sym, subst, ap}
+use mathlib.Core.Logic.{inl, inr}
+use mathlib.Core.List.{List, []}
 use native.Mathlib.Omega.{arith}
-use lib.Dec.{leb, ltb, eqb}
-use Rattle.std.specs.declared.option.Option.{Option}
-use Rattle.std.specs.declared.option.Option.the-variants.{Some, None}
+use Rattle.std.specs.declared.option.Option.the-variants.{None}
 use Rattle.std.specs.shelf.Lists.{All}
-use Rattle.std.proofs.shelf.Tests.{cases-eq, cases-lt, both-ways}
+use Rattle.std.proofs.shelf.Tests.{cases-lt}
 use Rattle.std.proofs.shelf.Ways.{tells}
 use Rattle.messages.specs.Messages.{Msg}
-use Rattle.rules.specs.Party.{Setting, Keyed, nothing, dropped, Party, Step}
-use Rattle.rules.specs.Thresholds.{primary}
-use Rattle.rules.specs.Posts.{to-all, view-msg, vote-msg}
+use Rattle.rules.specs.Party.{Setting, nothing, Party}
+use Rattle.rules.specs.Posts.{view-msg}
 use Rattle.rules.specs.Step.{enter, newcomer, empty-row}
-use Rattle.agreement.specs.Ring.{Kind, Ring, setting, in-ring, honest}
-use Rattle.agreement.specs.Calls.{Plan, named, own-of, planned, first-step, first-posts, set-up-done}
-use Rattle.agreement.proofs.History.{Log, said-now}
+use Rattle.agreement.specs.Ring.{Kind, Ring, setting, honest}
+use Rattle.agreement.specs.Calls.{Plan, named, own-of, first-step, first-posts}
 use Rattle.agreement.proofs.Posts.{Post, enter-posts}
 use Rattle.agreement.proofs.Begin.{Started, honest-parts}
-use Rattle.agreement.proofs.World.{World, none-some}
+use Rattle.agreement.proofs.World.{none-some}
 use Rattle.agreement.proofs.Fair.{MsgFair, post-fair}
 use Rattle.agreement.proofs.Sound.{Fair}
 use Rattle.agreement.proofs.Start.{first-log, quiet, first-said, first-inv, ring, W}

@@ -1,6 +1,6 @@
 -- What the second count rests on, said of one state: parties with their logs.
-use Prim.Native.Nat.{ℕ, zero, suc, _+_, _≤_, _<_}
-use mathlib.Core.Bool.{Bool, true, false, cond, _&&_, _||_, not}
+use Prim.Native.Nat.{ℕ, suc, _≤_, _<_}
+use mathlib.Core.Bool.{Bool, true, false, _||_, not}
 use mathlib.Core.Path.{_≡_}
 use mathlib.Core.Logic.{_⊎_}
 use mathlib.Core.List.{List}
@@ -8,8 +8,8 @@ use lib.Dec.{leb}
 use Rattle.std.specs.declared.option.Option.{Option}
 use Rattle.std.specs.declared.option.Option.the-variants.{Some, None}
 use Rattle.values.specs.Same.{equal}
-use Rattle.rules.specs.Party.{Setting, Keyed, Suggest, Proof, Proposal, nothing, waiting, echoed, dropped, Record, Party, none}
-use Rattle.rules.specs.Thresholds.{quorum, voucher, primary}
+use Rattle.rules.specs.Party.{Setting, Keyed, Suggest, nothing, waiting, dropped, Record, Party, none}
+use Rattle.rules.specs.Thresholds.{quorum, primary}
 use Rattle.rules.specs.Tests.{opens, bears-out, bears-key, lock-opened, accepted, voted, done-vouched, done-agreed}
 use Rattle.agreement.proofs.History.{Log, said-now}
 use Rattle.agreement.proofs.Voices.{Voiced}

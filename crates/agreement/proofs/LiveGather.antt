@@ -1,26 +1,21 @@
 -- The facts that the second count rests on follow from the invariants of safety, of choices and of closure.
-use Prim.Native.Nat.{ℕ, zero, suc, _+_, _≤_, _<_}
-use mathlib.Core.Bool.{Bool, true, false, cond, _&&_, _||_, not}
-use mathlib.Core.Path.{_≡_, refl, sym, _∙_, subst, subst₂, ap}
-use mathlib.Core.Logic.{_⊎_, inl, inr}
-use mathlib.Core.List.{List, [], _∷_, _++_, append-assoc, append-nil}
+use Prim.Native.Nat.{ℕ, _≤_, _<_}
+use mathlib.Core.Bool.{true}
+use mathlib.Core.Path.{_≡_, refl, sym, subst, subst₂, ap}
+use mathlib.Core.List.{List, _++_, append-assoc, append-nil}
 use native.Mathlib.Omega.{arith}
-use Rattle.std.specs.declared.option.Option.{Option}
-use Rattle.std.specs.declared.option.Option.the-variants.{Some, None}
-use Rattle.values.specs.Same.{equal}
 use Rattle.messages.specs.Messages.{Msg}
 use Rattle.rules.specs.Counting.{upd}
-use Rattle.rules.specs.Party.{Setting, Keyed, Suggest, Proof, Proposal, nothing, waiting, echoed, dropped, Record, Party, Step, still, and-then, none}
+use Rattle.rules.specs.Party.{Party, Step, still, and-then}
 use Rattle.rules.specs.Step.{step, on-timer}
 use Rattle.agreement.proofs.History.{Log, note}
 use Rattle.agreement.proofs.World.{World}
-use Rattle.agreement.proofs.Fair.{RowFair, MsgFair}
 use Rattle.agreement.proofs.Invariant.{Suggested, Proved, asked-of, Inv}
-use Rattle.agreement.proofs.Sound.{upd-here, upd-upd, upd-same, Fair, Good, good-part}
+use Rattle.agreement.proofs.Sound.{upd-here, upd-upd, upd-same, Good, good-part}
 use Rattle.agreement.proofs.Upshot.{one-done}
 use Rattle.values.proofs.Same.{equal-from-not}
-use Rattle.agreement.proofs.LiveFacts.{Prompt, Contents, Safe, Rows-say, Offer-of, Offers, Facts}
-use Rattle.agreement.proofs.Choice.{Covers, opens-by, bears-by}
+use Rattle.agreement.proofs.LiveFacts.{Prompt, Contents, Safe, Rows-say, Offers, Facts}
+use Rattle.agreement.proofs.Choice.{opens-by, bears-by}
 use Rattle.agreement.proofs.ChoiceKept.{Choice, choice-kept}
 use Rattle.agreement.proofs.Walk.{Parts, walk-step, walk-timer}
 use Rattle.agreement.proofs.Part.{Part, by-parts}

@@ -1,36 +1,32 @@
 -- The second count of every shift: once no message between honest parties waits or was lost, and the undecided share a view with an honest primary, none is undecided.
-use Prim.Native.Nat.{ℕ, zero, suc, _+_, _≤_, _<_}
-use mathlib.Core.Bool.{Bool, true, false, cond, _&&_, _||_, not}
+use Prim.Native.Nat.{ℕ, _≤_, _<_}
+use mathlib.Core.Bool.{true, false}
 use mathlib.Core.Path.{_≡_, refl, sym, _∙_, subst, ap}
 use mathlib.Core.Logic.{_⊎_, inl, inr}
-use mathlib.Core.List.{List, [], _∷_, _++_}
+use mathlib.Core.List.{List, [], _++_}
 use native.Mathlib.Omega.{arith}
-use lib.Dec.{leb, ltb, eqb}
 use Rattle.std.specs.declared.option.Option.{Option}
 use Rattle.std.specs.declared.option.Option.the-variants.{Some, None}
 use Rattle.std.specs.declared.result.Result.{Result}
-use Rattle.std.specs.declared.result.Result.the-variants.{Ok, Err}
+use Rattle.std.specs.declared.result.Result.the-variants.{Ok}
 use Rattle.std.specs.shelf.Lists.{All}
 use Rattle.std.proofs.shelf.Elements.{all-push}
 use Rattle.std.proofs.shelf.Tests.{and-from, both-ways}
 use Rattle.std.proofs.shelf.Ways.{tells}
 use Rattle.messages.specs.Messages.{Msg}
 use Rattle.wires.specs.Wire.{looked, taken}
-use Rattle.rules.specs.Counting.{upd}
-use Rattle.rules.specs.Party.{Setting, Party, Step}
-use Rattle.rules.specs.Thresholds.{primary}
+use Rattle.rules.specs.Party.{Party}
 use Rattle.rules.specs.Step.{step, on-timer}
-use Rattle.agreement.specs.Ring.{Kind, Ring, State, is-faulty, is-open, is-decided, setting, honest, shown-party, shown}
-use Rattle.agreement.specs.Calls.{said, Plan, with-wire, set-up, set-up-done}
+use Rattle.agreement.specs.Ring.{Kind, Ring, is-open, setting, honest, shown-party, shown}
+use Rattle.agreement.specs.Calls.{said, Plan, set-up, set-up-done}
 use Rattle.agreement.specs.Runs.{Call, Shift, begun, shift}
-use Rattle.agreement.specs.Counts.{None-between, Open, Nobody-left}
+use Rattle.agreement.specs.Counts.{Open, Nobody-left}
 use Rattle.agreement.proofs.History.{Log}
 use Rattle.agreement.proofs.Runs.{turned, Kept, run-kept}
 use Rattle.agreement.proofs.Begin.{Started, started, honest-parts, in-ring-parts}
-use Rattle.agreement.proofs.World.{World}
 use Rattle.agreement.proofs.Fair.{MsgFair}
 use Rattle.agreement.proofs.Invariant.{Inv, upd-ind}
-use Rattle.agreement.proofs.Sound.{Fair, Good, Laws, world}
+use Rattle.agreement.proofs.Sound.{Fair, Laws, world}
 use Rattle.agreement.proofs.Start.{first-said, laws-first, first-inv}
 use Rattle.agreement.proofs.Mail.{In, in-all, looked-in, taken-in, in-taken}
 use Rattle.agreement.proofs.Delivery.{Delivery}
@@ -38,7 +34,7 @@ use Rattle.agreement.proofs.DeliveryKept.{step-delivered, timer-delivered, swa
 use Rattle.agreement.proofs.Closure.{Tallied, Waits, prompt}
 use Rattle.agreement.proofs.Prompt.{step-tallied, timer-tallied, step-waits, timer-waits}
 use Rattle.agreement.proofs.ChoiceKept.{Choice}
-use Rattle.agreement.proofs.LiveGather.{facts, Grown, step-grown, timer-grown}
+use Rattle.agreement.proofs.LiveGather.{facts, step-grown, timer-grown}
 use Rattle.agreement.proofs.LiveArrive.{nobody-open}
 use Rattle.agreement.proofs.LiveBegin.{posts-begun, tallied-begun, waits-begun, choice-begun, delivery-begun}
 

@@ -1,29 +1,15 @@
 -- All that is known of one part of a step, and whole steps by their parts.
-use Prim.Native.Nat.{ℕ, zero, suc, _+_, _≤_, _<_, max}
-use mathlib.Core.Bool.{Bool, true, false, cond, _&&_, _||_, not}
-use mathlib.Core.Path.{_≡_, refl, sym, _∙_, subst}
-use mathlib.Core.Logic.{_⊎_, inl, inr}
-use mathlib.Core.List.{List, [], _∷_, _++_}
+use Prim.Native.Nat.{ℕ, _≤_, _<_}
+use mathlib.Core.Path.{refl}
 use native.Mathlib.Omega.{arith}
-use lib.Dec.{leb, ltb, eqb}
-use Rattle.std.specs.declared.option.Option.{Option}
-use Rattle.std.specs.declared.option.Option.the-variants.{Some, None}
-use Rattle.std.proofs.shelf.Tests.{cond-both, cases-eq, cases-bool, or-parts, both-ways}
-use Rattle.std.proofs.shelf.Ways.{tells}
-use Rattle.values.specs.Same.{equal}
 use Rattle.messages.specs.Messages.{Msg}
-use Rattle.rules.specs.Party.{Setting, Proposal, nothing, waiting, echoed, dropped, Party, Step, still, and-then, none}
-use Rattle.rules.specs.Thresholds.{primary, quorum, voucher}
-use Rattle.rules.specs.Tests.{lock-opened, heeded}
-use Rattle.rules.specs.Step.{echo, wake, wake-proposal, lock-fits, may-wait, on-propose, on-proof, on-vote, react, step, on-timer}
-use Rattle.rules.specs.Quorums.{Quorums}
-use Rattle.agreement.proofs.Effects.{E, still-effect, request-effect, enter-effect, suggest-effect, told-proof-effect, drop-effect, echo-effect, wait-effect, vote-effect, lock-effect, wake-effect, done-effect, raise-effect, told-abort-effect}
+use Rattle.rules.specs.Party.{Setting, Party, Step, still, and-then}
+use Rattle.rules.specs.Step.{echo, wake}
+use Rattle.agreement.proofs.Effects.{E, request-effect, enter-effect, suggest-effect, told-proof-effect, drop-effect, echo-effect, wait-effect, vote-effect, lock-effect, wake-effect, done-effect, raise-effect, told-abort-effect}
 use Rattle.agreement.proofs.Posts.{Posts, still-posts, enter-posts, echo-posts, wake-posts, suggest-posts, vote-posts, lock-posts, raise-posts, done-posts, request-posts}
-use Rattle.agreement.proofs.Walk.{Now, Turn, Wakes, raised-row, proposed, Parts, walk-step, walk-timer}
+use Rattle.agreement.proofs.Walk.{Parts}
 use Rattle.agreement.proofs.Drawn.{D, request-drawn, enter-drawn, suggest-drawn, proof-drawn, forbid-drawn, echo-drawn, wait-drawn, drop-drawn, wake-drawn, vote-drawn, lock-drawn, done-drawn, abort-drawn, raise-drawn}
 use Rattle.agreement.proofs.Gives.{Gives, request-gives, enter-gives, suggest-gives, proof-gives, drop-gives, wait-gives, echo-gives, wake-gives, vote-gives, lock-gives, done-gives, abort-gives, raise-gives}
-use Rattle.agreement.proofs.LiveFacts.{Prompt}
-use Rattle.agreement.proofs.Closure.{Tallied, Waits, prompt, tallied-kept, waits-kept}
 
 module _ (g : Setting) (me : ℕ) (m : Msg) where
   pub record Part (p : Party) (s : Step) : Type 0 where

@@ -1,27 +1,22 @@
 -- Between calls every honest party has followed all rules that begin with "once": kept by a step, by the timer, and true at set-up.
-use Prim.Native.Nat.{ℕ, zero, suc, _+_, _≤_, _<_, max}
-use mathlib.Core.Bool.{Bool, true, false, cond, _&&_, _||_, not}
-use mathlib.Core.Path.{_≡_, refl, sym, _∙_, subst}
+use Prim.Native.Nat.{ℕ, _≤_, _<_}
+use mathlib.Core.Bool.{Bool, true, false, cond, _||_, not}
+use mathlib.Core.Path.{_≡_, refl, subst}
 use mathlib.Core.Logic.{_⊎_, inl, inr}
-use mathlib.Core.List.{List, [], _∷_, _++_}
+use mathlib.Core.List.{List}
 use native.Mathlib.Omega.{arith}
-use lib.Dec.{leb, ltb, eqb}
-use Rattle.std.specs.declared.option.Option.{Option}
-use Rattle.std.specs.declared.option.Option.the-variants.{Some, None}
-use Rattle.std.proofs.shelf.Tests.{cond-both, cases-eq, cases-bool, or-parts, both-ways}
+use lib.Dec.{leb, eqb}
+use Rattle.std.proofs.shelf.Tests.{cond-both, cases-eq, or-parts, both-ways}
 use Rattle.std.proofs.shelf.Ways.{tells}
 use Rattle.values.specs.Same.{equal}
 use Rattle.messages.specs.Messages.{Msg}
-use Rattle.rules.specs.Party.{Setting, Suggest, Proposal, nothing, waiting, echoed, dropped, Party, Step, still, and-then, none}
-use Rattle.rules.specs.Thresholds.{primary, quorum, voucher}
-use Rattle.rules.specs.Tests.{is, accepts, accepted, lock-opened, heeded, voted, done-vouched, done-agreed}
-use Rattle.rules.specs.Step.{enter, newcomer, echo, wake, wake-proposal, lock-fits, may-wait, on-propose, on-proof, on-vote, react, step, on-timer}
+use Rattle.rules.specs.Party.{Setting, Proposal, nothing, waiting, echoed, dropped, Party, Step, and-then}
+use Rattle.rules.specs.Thresholds.{quorum, voucher}
+use Rattle.rules.specs.Tests.{lock-opened, heeded}
+use Rattle.rules.specs.Step.{enter, newcomer, wake, wake-proposal, lock-fits, may-wait, on-propose, on-proof, on-vote, step, on-timer}
 use Rattle.rules.specs.Quorums.{Quorums}
-use Rattle.agreement.proofs.Effects.{E}
-use Rattle.agreement.proofs.Walk.{proposed, Parts, walk-step, walk-timer}
-use Rattle.agreement.proofs.Drawn.{D}
-use Rattle.agreement.proofs.LiveFacts.{Prompt}
-use Rattle.agreement.proofs.Closure.{Tallied, Waits, prompt, member, quorum-vouches, tallied-kept, waits-kept}
+use Rattle.agreement.proofs.Walk.{Parts, walk-step, walk-timer}
+use Rattle.agreement.proofs.Closure.{Tallied, Waits, member, tallied-kept, waits-kept}
 use Rattle.agreement.proofs.Part.{Part, by-parts}
 
 -- the reaction to a proof, a propose and a key3

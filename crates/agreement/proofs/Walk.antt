@@ -1,17 +1,15 @@
 -- A step as a walk through its parts: what each part keeps, and what one after another keeps, a whole step keeps.
-use Prim.Native.Nat.{ℕ, zero, suc, _+_, _≤_, _<_, max}
-use mathlib.Core.Bool.{Bool, true, false, cond, _&&_, _||_, not}
-use mathlib.Core.Path.{_≡_, refl, sym, _∙_, subst}
+use Prim.Native.Nat.{ℕ, _≤_, _<_, max}
+use mathlib.Core.Bool.{true, false, not}
+use mathlib.Core.Path.{_≡_, refl, subst}
 use mathlib.Core.Logic.{_⊎_, inl, inr}
-use mathlib.Core.List.{List, [], _∷_, _++_}
 use native.Mathlib.Omega.{arith}
 use lib.Dec.{leb, ltb, eqb}
-use Rattle.std.specs.declared.option.Option.{Option}
-use Rattle.std.specs.declared.option.Option.the-variants.{Some, None}
-use Rattle.std.proofs.shelf.Tests.{cond-both, and-parts, eqb-true, eqb-false, leb-true, leb-false, ltb-true}
+use Rattle.std.specs.declared.option.Option.the-variants.{None}
+use Rattle.std.proofs.shelf.Tests.{cond-both, eqb-true, eqb-false, leb-true, leb-false, ltb-true}
 use Rattle.std.proofs.shelf.Ways.{tells}
-use Rattle.messages.specs.Messages.{Msg, between}
-use Rattle.rules.specs.Party.{Setting, Proposal, nothing, waiting, echoed, dropped, Record, Row, Party, Step, with-rec, with-proposal, with-row, with-abort, still, and-then, none}
+use Rattle.messages.specs.Messages.{Msg}
+use Rattle.rules.specs.Party.{Setting, Proposal, nothing, waiting, echoed, dropped, Party, Step, with-rec, with-proposal, with-row, with-abort, still, and-then, none}
 use Rattle.rules.specs.Thresholds.{primary, vouched, reached}
 use Rattle.rules.specs.Tests.{heeded, is-nothing}
 use Rattle.agreement.proofs.Steps.{none-is}
