@@ -1,9 +1,8 @@
 -- What an accepted set-up has found, and the laws of quorums among the honest parties of its ring.
-use Prim.Native.Nat.{ℕ, zero, suc, _+_, _*_, _^_, _≤_, _<_}
-use mathlib.Core.Bool.{Bool, true, false, cond, _&&_, _||_, not}
-use mathlib.Core.Path.{_≡_, refl, sym, _∙_, subst}
-use mathlib.Core.Logic.{_⊎_, inl, inr}
-use mathlib.Core.List.{List, [], _∷_, _++_}
+use Prim.Native.Nat.{ℕ, zero, suc, _*_, _^_, _≤_, _<_}
+use mathlib.Core.Bool.{Bool, true, false, _&&_, not}
+use mathlib.Core.Path.{_≡_, refl}
+use mathlib.Core.List.{List, [], _∷_}
 use native.Mathlib.Omega.{arith}
 use lib.Dec.{leb, ltb, eqb}
 use lib.ListN.{length}
@@ -11,13 +10,12 @@ use Rattle.std.proofs.shelf.Tests.{cond-both, and-parts, and-from, eqb-true, le
 use Rattle.std.proofs.shelf.Ways.{tells}
 use Rattle.messages.specs.Messages.{Msg, between}
 use Rattle.rules.specs.Counting.{count}
-use Rattle.rules.specs.Party.{Setting}
 use Rattle.rules.specs.Bounds.{every}
 use Rattle.rules.specs.Thresholds.{sizes-fit, quorum, voucher}
 use Rattle.rules.specs.Quorums.{Quorums}
 use Rattle.rules.proofs.Quorums.{by-count}
 use Rattle.agreement.specs.Ring.{Kind, Ring, setting, in-ring, honest, room}
-use Rattle.agreement.specs.Calls.{Answer, said, refused, Outcome, Plan, refuse, named, own-of, set-up-done, own-allowed, places-enough, set-up}
+use Rattle.agreement.specs.Calls.{said, Outcome, Plan, refuse, named, set-up-done, own-allowed, places-enough, set-up}
 
 -- what set-up found where it answered 0
 pub record Started (k : Kind) (p : Plan) (s : Ring) : Type 0 where

@@ -1,29 +1,25 @@
 -- At most one value is decided in a shift, and it is allowed: a decided party stays so, and decisions rest on locks that hold.
-use Prim.Native.Nat.{ℕ, zero, suc, _+_, _≤_, _<_}
-use mathlib.Core.Bool.{Bool, true, false, cond, _&&_, _||_, not}
-use mathlib.Core.Path.{_≡_, refl, sym, _∙_, subst, ap}
-use mathlib.Core.Logic.{_⊎_, inl, inr}
-use mathlib.Core.List.{List, [], _∷_, _++_}
+use Prim.Native.Nat.{ℕ, zero, suc}
+use mathlib.Core.Bool.{true, false}
+use mathlib.Core.Path.{_≡_, refl, sym, _∙_, ap}
+use mathlib.Core.List.{List, [], _∷_}
 use native.Mathlib.Omega.{arith}
-use lib.Dec.{eqb}
 use lib.ListN.{take}
 use Rattle.std.specs.declared.option.Option.{Option}
 use Rattle.std.specs.declared.option.Option.the-variants.{Some, None}
-use Rattle.std.proofs.shelf.Tests.{cond-both, eqb-true}
 use Rattle.messages.specs.Messages.{Msg}
-use Rattle.rules.specs.Counting.{upd}
-use Rattle.rules.specs.Party.{Setting, Party, Step, still, none}
+use Rattle.rules.specs.Party.{Setting, Party, still}
 use Rattle.rules.specs.Tests.{heeded}
 use Rattle.rules.specs.Step.{step}
-use Rattle.agreement.specs.Ring.{Kind, Ring, State, is-faulty, is-open, is-decided, setting, honest, shown-party, shown}
+use Rattle.agreement.specs.Ring.{Kind, Ring, is-decided, setting, honest, shown-party, shown}
 use Rattle.agreement.specs.Calls.{said, Plan, set-up}
 use Rattle.agreement.specs.Runs.{Call, Shift, call, follow, run, begun, shift}
 use Rattle.agreement.specs.Counts.{Decided, One-value}
-use Rattle.agreement.proofs.Runs.{Kept, call-kept, run-kept}
+use Rattle.agreement.proofs.Runs.{Kept, run-kept}
 use Rattle.agreement.proofs.Begin.{honest-parts}
-use Rattle.agreement.proofs.World.{World, Cert, none-some, cert-has}
+use Rattle.agreement.proofs.World.{World, none-some, cert-has}
 use Rattle.agreement.proofs.Locks.{Locked, one-locked, locked-allowed}
-use Rattle.agreement.proofs.Invariant.{Inv, upd-ind}
+use Rattle.agreement.proofs.Invariant.{upd-ind}
 use Rattle.agreement.proofs.Sound.{Sound, world, sound-kept}
 use Rattle.agreement.proofs.Start.{begun-sound}
 

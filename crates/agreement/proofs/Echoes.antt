@@ -1,23 +1,22 @@
 -- Echoes in the log: what lets a party echo, and which of its echoes were made before a lock of their view.
-use Prim.Native.Nat.{ℕ, zero, suc, _+_, _≤_, _<_}
-use mathlib.Core.Bool.{Bool, true, false, cond, _&&_, _||_, not}
+use Prim.Native.Nat.{ℕ, zero, _≤_, _<_}
+use mathlib.Core.Bool.{true, false}
 use mathlib.Core.Path.{_≡_, refl, sym, _∙_, subst, ap}
 use mathlib.Core.Logic.{_⊎_, inl, inr}
-use mathlib.Core.List.{List, [], _∷_, _++_}
+use mathlib.Core.List.{List}
 use native.Mathlib.Omega.{arith}
-use lib.Dec.{leb, ltb, eqb}
+use lib.Dec.{eqb}
 use Rattle.std.specs.declared.option.Option.{Option}
 use Rattle.std.specs.declared.option.Option.the-variants.{Some, None}
-use Rattle.std.proofs.shelf.Tests.{cond-both, and-parts, eqb-true, leb-true, cases-lt, cases-eq, or-cases}
+use Rattle.std.proofs.shelf.Tests.{eqb-true, cases-lt, cases-eq, or-cases}
 use Rattle.std.proofs.shelf.Ways.{tells}
 use Rattle.values.specs.Same.{equal}
 use Rattle.values.proofs.Same.{same-from-equal}
-use Rattle.messages.specs.Messages.{Msg, between}
-use Rattle.rules.specs.Party.{Setting, Keyed, Suggest, Proof, Proposal, nothing, waiting, echoed, dropped, Record, Row, Party, none}
-use Rattle.rules.specs.Thresholds.{primary}
-use Rattle.rules.specs.Tests.{below, up-to, opens-lock, lock-opened, voted}
+use Rattle.messages.specs.Messages.{Msg}
+use Rattle.rules.specs.Party.{Keyed, Proof, Record, Party}
+use Rattle.rules.specs.Tests.{below, up-to, opens-lock, lock-opened}
 use Rattle.agreement.proofs.History.{Log, echo-of, said-now, note}
-use Rattle.agreement.proofs.Effects.{Effect, Field, Proposed}
+use Rattle.agreement.proofs.Effects.{Effect}
 use Rattle.agreement.proofs.World.{World, voucher-has, none-some}
 use Rattle.agreement.proofs.Notes.{LogOk, Grows, log-grows, field-seen, field-top, field-bound}
 

@@ -1,22 +1,21 @@
 -- What one part of a step can change in a party, and which test had passed. Nothing here knows of honesty.
-use Prim.Native.Nat.{ℕ, zero, suc, _+_, _≤_, _<_, max}
-use mathlib.Core.Bool.{Bool, true, false, cond, _&&_, _||_, not}
-use mathlib.Core.Path.{_≡_, refl, sym, _∙_}
-use mathlib.Core.Logic.{_⊎_, inl, inr}
-use mathlib.Core.List.{List, [], _∷_, _++_}
+use Prim.Native.Nat.{ℕ, suc, _≤_, _<_, max}
+use mathlib.Core.Bool.{true, false, cond, _&&_, _||_, not}
+use mathlib.Core.Path.{_≡_, refl}
+use mathlib.Core.Logic.{_⊎_}
+use mathlib.Core.List.{List}
 use native.Mathlib.Omega.{arith}
-use lib.Dec.{leb, ltb, eqb}
+use lib.Dec.{leb, ltb}
 use Rattle.std.specs.declared.option.Option.{Option}
 use Rattle.std.specs.declared.option.Option.the-variants.{Some, None}
-use Rattle.std.proofs.shelf.Tests.{cond-both, and-parts, eqb-true, leb-true}
+use Rattle.std.proofs.shelf.Tests.{cond-both, and-parts, leb-true}
 use Rattle.std.proofs.shelf.Ways.{tells}
 use Rattle.values.specs.Same.{equal}
-use Rattle.messages.specs.Messages.{Msg, between}
-use Rattle.rules.specs.Counting.{upd}
-use Rattle.rules.specs.Party.{Setting, Keyed, Suggest, Proof, Proposal, nothing, waiting, echoed, dropped, Record, Row, Party, Step, with-rec, with-proposal, with-row, with-abort, still, and-then, none}
-use Rattle.rules.specs.Thresholds.{primary, quorum, voucher, vouched, reached}
+use Rattle.messages.specs.Messages.{Msg}
+use Rattle.rules.specs.Party.{Setting, Suggest, Proof, Proposal, nothing, waiting, echoed, dropped, Row, Party, Step, with-rec, with-proposal, with-row, with-abort, still, and-then, none}
+use Rattle.rules.specs.Thresholds.{primary, quorum, vouched, reached}
 use Rattle.rules.specs.Tests.{lock-opened, accepted, voted, done-vouched, done-agreed, best}
-use Rattle.rules.specs.Step.{enter, on-request, told-suggest, propose, propose-due, on-suggest, echo, wake, wake-proposal, lock-fits, may-wait, on-propose, told-proof, told-vote, keeps-previous, announce-due, announce, on-vote, on-lock, say-done, told-done, join-done, decide, on-done, aborts, say-abort, join-abort, leave, on-abort, on-timer}
+use Rattle.rules.specs.Step.{enter, on-request, told-suggest, propose, propose-due, on-suggest, echo, wake-proposal, lock-fits, may-wait, told-proof, told-vote, keeps-previous, announce-due, on-vote, on-lock, say-done, told-done, decide, on-done, aborts, say-abort, join-abort, leave}
 
 -- a field of kind k stays, or moves to the view: then a quorum in the rows voted the message's value by the kind before
 module _ (g : Setting) (me : ℕ) (p : Party) (m : Msg) (q : Party) where

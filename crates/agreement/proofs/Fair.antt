@@ -1,20 +1,17 @@
 -- What rows and messages hold of an honest sender is what its log says.
-use Prim.Native.Nat.{ℕ, zero, suc, _+_, _≤_, _<_}
-use mathlib.Core.Bool.{Bool, true, false, cond, _&&_, _||_, not}
-use mathlib.Core.Path.{_≡_, refl, sym, _∙_, subst, ap}
+use Prim.Native.Nat.{ℕ, _≤_}
+use mathlib.Core.Path.{_≡_, sym, _∙_, subst, ap}
 use mathlib.Core.Logic.{_⊎_, inl, inr}
 use mathlib.Core.List.{List}
 use native.Mathlib.Omega.{arith}
-use lib.Dec.{leb, ltb, eqb}
 use Rattle.std.specs.declared.option.Option.{Option}
 use Rattle.std.specs.declared.option.Option.the-variants.{Some, None}
-use Rattle.std.proofs.shelf.Ways.{tells}
 use Rattle.messages.specs.Messages.{Msg}
-use Rattle.rules.specs.Party.{Setting, Keyed, Suggest, Proof, Record, Row, Party}
-use Rattle.agreement.proofs.History.{Log, said-now}
+use Rattle.rules.specs.Party.{Setting, Row, Party}
+use Rattle.agreement.proofs.History.{Log}
 use Rattle.agreement.proofs.Effects.{Effect, Entry, suggest-in, proof-in}
 use Rattle.agreement.proofs.Posts.{Post}
-use Rattle.agreement.proofs.Notes.{LogOk, Still, Grows}
+use Rattle.agreement.proofs.Notes.{LogOk, Grows}
 
 -- an entry that is empty or what the log shows
 abbrev pub Shows : {X : Type 0} → Option X → Option X → Type 0

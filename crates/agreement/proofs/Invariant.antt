@@ -1,7 +1,7 @@
 -- What holds of the honest parties of a ring and of their logs between any two parts of steps.
-use Prim.Native.Nat.{ℕ, zero, suc, _+_, _≤_, _<_}
-use mathlib.Core.Bool.{Bool, true, false, cond, _&&_, _||_, not}
-use mathlib.Core.Path.{_≡_, refl, sym, _∙_, subst, ap}
+use Prim.Native.Nat.{ℕ, _≤_, _<_}
+use mathlib.Core.Bool.{Bool, true, false, cond, _&&_}
+use mathlib.Core.Path.{_≡_, refl, sym, _∙_, subst}
 use mathlib.Core.Logic.{_⊎_, inl, inr}
 use mathlib.Core.List.{List}
 use native.Mathlib.Omega.{arith}
@@ -9,17 +9,16 @@ use lib.Dec.{eqb}
 use Rattle.std.specs.declared.option.Option.{Option}
 use Rattle.std.specs.declared.option.Option.the-variants.{Some, None}
 use Rattle.std.proofs.shelf.Tests.{cond-both, and-parts, and-from, eqb-true}
-use Rattle.std.proofs.shelf.Ways.{tells}
 use Rattle.messages.specs.Messages.{Msg}
 use Rattle.rules.specs.Counting.{upd}
-use Rattle.rules.specs.Party.{Keyed, Suggest, Proof, Proposal, nothing, waiting, echoed, dropped, Record, Row, Party, none}
+use Rattle.rules.specs.Party.{Suggest, Proof, Proposal, nothing, waiting, echoed, dropped, Party, none}
 use Rattle.rules.specs.Thresholds.{quorum}
 use Rattle.rules.specs.Tests.{is, voted}
-use Rattle.agreement.proofs.History.{Log, echo-of, note}
+use Rattle.agreement.proofs.History.{Log, echo-of}
 use Rattle.agreement.proofs.Effects.{Effect}
-use Rattle.agreement.proofs.World.{World, Cert, is-some, some-is, none-some, find, certs-share, cert-has, cert-grows, cert-from}
-use Rattle.agreement.proofs.Notes.{LogOk, Still, Grows, same-log, log-grows}
-use Rattle.agreement.proofs.Locks.{Other, Asked, Core, Locked, to-key1, said-key1}
+use Rattle.agreement.proofs.World.{World, Cert, is-some, some-is, none-some, find, cert-grows, cert-from}
+use Rattle.agreement.proofs.Notes.{LogOk, Grows}
+use Rattle.agreement.proofs.Locks.{Other, Asked, Core, Locked, said-key1}
 use Rattle.agreement.proofs.Keys.{Told, told-grows}
 use Rattle.agreement.proofs.Fair.{RowFair, MsgFair, row-step}
 

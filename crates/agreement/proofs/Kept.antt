@@ -1,27 +1,26 @@
 -- One part of a step of an honest party keeps the invariant.
-use Prim.Native.Nat.{ℕ, zero, suc, pred, _+_, _≤_, _<_}
-use mathlib.Core.Bool.{Bool, true, false, cond, _&&_, _||_, not}
+use Prim.Native.Nat.{ℕ, _≤_}
+use mathlib.Core.Bool.{Bool, true, false, cond, _&&_, not}
 use mathlib.Core.Path.{_≡_, refl, sym, _∙_, subst, subst₂, ap}
 use mathlib.Core.Logic.{_⊎_, inl, inr}
 use mathlib.Core.List.{List}
 use native.Mathlib.Omega.{arith}
-use lib.Dec.{leb, ltb, eqb}
+use lib.Dec.{leb, eqb}
 use Rattle.std.specs.declared.option.Option.{Option}
 use Rattle.std.specs.declared.option.Option.the-variants.{Some, None}
 use Rattle.std.proofs.shelf.Tests.{le-leb}
 use Rattle.std.proofs.shelf.Ways.{tells}
 use Rattle.values.specs.Same.{equal}
 use Rattle.messages.specs.Messages.{Msg}
-use Rattle.rules.specs.Counting.{upd}
-use Rattle.rules.specs.Party.{Setting, Keyed, Suggest, Proof, Proposal, Record, Row, Party, none}
-use Rattle.rules.specs.Tests.{is, voted, done-vouched, done-agreed}
+use Rattle.rules.specs.Party.{Suggest, Proof, Party, none}
+use Rattle.rules.specs.Tests.{is}
 use Rattle.rules.specs.Step.{keeps-previous}
-use Rattle.agreement.proofs.History.{Log, note}
+use Rattle.agreement.proofs.History.{Log}
 use Rattle.agreement.proofs.Effects.{Effect}
-use Rattle.agreement.proofs.World.{World, Cert, is-some, none-some, cert-has, cert-grows, voucher-has, quorum-voucher}
-use Rattle.agreement.proofs.Notes.{LogOk, Still, Grows}
+use Rattle.agreement.proofs.World.{World, Cert, is-some, cert-has, cert-grows, voucher-has, quorum-voucher}
+use Rattle.agreement.proofs.Notes.{LogOk, Grows}
 use Rattle.agreement.proofs.Echoes.{log-ok}
-use Rattle.agreement.proofs.Locks.{Asked, Core, Locked, said-allowed}
+use Rattle.agreement.proofs.Locks.{Asked, Locked, said-allowed}
 use Rattle.agreement.proofs.Keys.{Told, told-grows, told-moved}
 use Rattle.agreement.proofs.Fair.{RowFair, MsgFair, row-grows}
 use Rattle.agreement.proofs.Invariant.{Proved, Suggested, asked-of, Inv, upd-ind, upd-ind₂, asked-grows, locked-grows, proved-grows, suggested-grows, rows-now, by-vote, by-done, done-back}

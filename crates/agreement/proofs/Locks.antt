@@ -1,14 +1,12 @@
 -- Locks hold: what a quorum has locked stays the only value of key1, so all that honest parties say of done is one value.
-use Prim.Native.Nat.{ℕ, zero, suc, _+_, _≤_, _<_}
-use mathlib.Core.Bool.{Bool, true, false, cond, _&&_, _||_, not}
-use mathlib.Core.Path.{_≡_, refl, sym, _∙_, subst}
+use Prim.Native.Nat.{ℕ, zero, suc, _≤_, _<_}
+use mathlib.Core.Bool.{true}
+use mathlib.Core.Path.{_≡_, sym, subst}
 use mathlib.Core.Logic.{_⊎_, inl, inr}
 use mathlib.Core.List.{List}
 use native.Mathlib.Omega.{arith}
-use Rattle.std.specs.declared.option.Option.{Option}
-use Rattle.std.specs.declared.option.Option.the-variants.{Some, None}
+use Rattle.std.specs.declared.option.Option.the-variants.{Some}
 use Rattle.std.proofs.shelf.Tests.{cases-lt}
-use Rattle.rules.specs.Party.{Keyed}
 use Rattle.rules.specs.Thresholds.{primary}
 use Rattle.agreement.proofs.History.{Log}
 use Rattle.agreement.proofs.World.{World, Cert, certs-share, cert-has}

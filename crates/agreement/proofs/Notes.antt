@@ -1,22 +1,18 @@
 -- The log of a party against its record: kept by every part of a step, never unsaid, and what is new in it.
-use Prim.Native.Nat.{ℕ, zero, suc, _+_, _≤_, _<_}
-use mathlib.Core.Bool.{Bool, true, false, cond, _&&_, _||_, not}
-use mathlib.Core.Path.{_≡_, refl, sym, _∙_, subst}
-use mathlib.Core.Logic.{_⊎_, inl, inr}
-use mathlib.Core.List.{List, [], _∷_, _++_}
+use Prim.Native.Nat.{ℕ, zero, suc, _≤_, _<_}
+use mathlib.Core.Bool.{true}
+use mathlib.Core.Path.{_≡_, refl}
+use mathlib.Core.Logic.{_⊎_, inr}
+use mathlib.Core.List.{List}
 use native.Mathlib.Omega.{arith}
-use lib.Dec.{leb, ltb, eqb}
 use Rattle.std.specs.declared.option.Option.{Option}
 use Rattle.std.specs.declared.option.Option.the-variants.{Some, None}
-use Rattle.std.proofs.shelf.Tests.{cond-both, and-parts, eqb-true, leb-true}
 use Rattle.std.proofs.shelf.Ways.{tells}
-use Rattle.values.specs.Same.{equal}
-use Rattle.messages.specs.Messages.{Msg, between}
-use Rattle.rules.specs.Party.{Setting, Keyed, Suggest, Proof, Proposal, nothing, waiting, echoed, dropped, Record, Row, Party, none}
-use Rattle.rules.specs.Thresholds.{primary}
-use Rattle.rules.specs.Tests.{lock-opened, voted}
+use Rattle.messages.specs.Messages.{Msg}
+use Rattle.rules.specs.Party.{Setting, Record, Party}
+use Rattle.rules.specs.Tests.{voted}
 use Rattle.agreement.proofs.History.{Log, echo-of, said-now, note}
-use Rattle.agreement.proofs.Effects.{Effect, Field, Proposed}
+use Rattle.agreement.proofs.Effects.{Effect}
 
 -- a log that agrees with a record
 pub record LogOk (log : Log) (r : Record) : Type 0 where

@@ -1,8 +1,7 @@
 -- Each post of a part of a step is its sender's own, and says what the sender's record then holds.
-use Prim.Native.Nat.{ℕ, zero, suc, _+_, _≤_, _<_, max}
-use mathlib.Core.Bool.{Bool, true, false, cond, _&&_, _||_, not}
-use mathlib.Core.Path.{_≡_, refl, sym, _∙_}
-use mathlib.Core.Logic.{_⊎_, inl, inr}
+use Prim.Native.Nat.{ℕ, zero, suc, _+_, _≤_, _<_}
+use mathlib.Core.Bool.{Bool, true, false, cond, _&&_, _||_}
+use mathlib.Core.Path.{_≡_, refl}
 use mathlib.Core.List.{List, [], _∷_, _++_}
 use native.Mathlib.Omega.{arith}
 use lib.Dec.{leb, ltb, eqb}
@@ -14,14 +13,13 @@ use Rattle.std.proofs.shelf.Tests.{cond-both, and-parts, eqb-true, leb-true}
 use Rattle.std.proofs.shelf.Ways.{tells}
 use Rattle.std.proofs.shelf.Bits.{mod-below}
 use Rattle.values.specs.Same.{equal}
-use Rattle.messages.specs.Messages.{Msg, between}
-use Rattle.rules.specs.Counting.{upd}
-use Rattle.rules.specs.Party.{Setting, Keyed, Suggest, Proof, Proposal, nothing, waiting, echoed, dropped, Record, Row, Party, Step, with-rec, with-proposal, with-row, with-request, with-abort, still, and-then, none}
-use Rattle.rules.specs.Thresholds.{primary, quorum, voucher, vouched, reached}
-use Rattle.rules.specs.Posts.{to-each, view-msg, suggest-msg, proof-msg, propose-msg, vote-msg, to-all, to-joined, made-offer, made-echo, made-vote, made, suggest-to}
-use Rattle.rules.specs.Tests.{lock-opened, accepted, voted, done-vouched, done-agreed, best}
-use Rattle.rules.specs.Step.{enter, on-request, told-suggest, propose, propose-due, on-suggest, echo, wake-proposal, told-vote, announce-due, announce, on-vote, on-lock, say-done, told-done, join-done, decide, on-done, aborts, say-abort, join-abort, leave}
-use Rattle.agreement.proofs.History.{said-now, echo-of}
+use Rattle.messages.specs.Messages.{Msg}
+use Rattle.rules.specs.Party.{Setting, Keyed, Suggest, Proposal, nothing, waiting, echoed, dropped, Party, Step, with-row, with-request, still, and-then, none}
+use Rattle.rules.specs.Thresholds.{primary, vouched, reached}
+use Rattle.rules.specs.Posts.{to-each, proof-msg, made-offer, made-echo, made-vote, made, suggest-to}
+use Rattle.rules.specs.Tests.{lock-opened, voted, done-vouched, done-agreed}
+use Rattle.rules.specs.Step.{enter, on-request, told-suggest, propose, propose-due, on-suggest, echo, wake-proposal, told-vote, announce-due, on-vote, on-lock, say-done, told-done, decide, on-done, aborts, say-abort, join-abort, leave}
+use Rattle.agreement.proofs.History.{said-now}
 use Rattle.agreement.proofs.Effects.{suggest-in, proof-in}
 
 -- one post of party `me`, which was p and is now q

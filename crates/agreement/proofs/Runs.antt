@@ -1,23 +1,21 @@
 -- A fact of a shift that set-up gives and every call keeps holds of every shift.
-use Prim.Native.Nat.{ℕ, zero, suc, _+_, _*_, _≤_, _<_}
-use mathlib.Core.Bool.{Bool, true, false, cond, _&&_, _||_, not}
-use mathlib.Core.Path.{_≡_, refl, sym, _∙_, subst}
+use Prim.Native.Nat.{ℕ, _+_}
+use mathlib.Core.Bool.{true, _&&_}
+use mathlib.Core.Path.{_≡_, refl, sym, subst}
 use mathlib.Core.Logic.{_⊎_, inl, inr}
 use mathlib.Core.List.{List, [], _∷_, _++_, append-nil}
-use native.Mathlib.Omega.{arith}
-use lib.Dec.{leb, ltb, eqb}
-use Rattle.std.specs.declared.option.Option.{Option}
-use Rattle.std.specs.declared.option.Option.the-variants.{Some, None}
+use lib.Dec.{leb, ltb}
+use Rattle.std.specs.declared.option.Option.the-variants.{None}
 use Rattle.std.specs.declared.result.Result.{Result}
 use Rattle.std.specs.declared.result.Result.the-variants.{Ok, Err}
 use Rattle.std.proofs.shelf.Tests.{cond-both, and-parts}
 use Rattle.messages.specs.Messages.{Msg, last-view, in-range}
 use Rattle.wires.specs.Wire.{looked, taken}
 use Rattle.rules.specs.Counting.{upd}
-use Rattle.rules.specs.Party.{Party, Step, none}
+use Rattle.rules.specs.Party.{Party, none}
 use Rattle.rules.specs.Step.{step, on-timer}
 use Rattle.agreement.specs.Ring.{Kind, Ring, setting, in-ring, honest, room, step-room, tables-fit}
-use Rattle.agreement.specs.Calls.{Outcome, Plan, refuse, with-wire, stepped, deliver, bring, bring-found, lose-found, send-message, ring-timer, ring-show}
+use Rattle.agreement.specs.Calls.{Outcome, refuse, with-wire, bring-found, lose-found, send-message, ring-timer, ring-show}
 use Rattle.agreement.proofs.Steps.{none-is}
 use Rattle.agreement.specs.Runs.{Call, hand, repeat, lose, send, timer, show, Shift, obey, call, follow, run}
 

@@ -1,25 +1,24 @@
 -- The invariant of a shift, with all that was posted and all that waits: every call keeps it.
-use Prim.Native.Nat.{ℕ, zero, suc, _+_, _*_, _≤_, _<_}
-use mathlib.Core.Bool.{Bool, true, false, cond, _&&_, _||_, not}
-use mathlib.Core.Path.{_≡_, refl, sym, _∙_, subst, subst₂, ap, fun-ext}
+use Prim.Native.Nat.{ℕ, zero, suc, _+_, _<_}
+use mathlib.Core.Bool.{Bool, true, false}
+use mathlib.Core.Path.{_≡_, refl, sym, subst, fun-ext}
 use mathlib.Core.Logic.{_⊎_, inl, inr}
 use mathlib.Core.List.{List, [], _∷_, _++_}
 use native.Mathlib.Omega.{arith}
-use lib.Dec.{leb, ltb, eqb}
+use lib.Dec.{eqb}
 use Rattle.std.specs.declared.option.Option.{Option}
-use Rattle.std.specs.declared.option.Option.the-variants.{Some, None}
-use Rattle.std.specs.declared.result.Result.{Result}
-use Rattle.std.specs.declared.result.Result.the-variants.{Ok, Err}
+use Rattle.std.specs.declared.option.Option.the-variants.{None}
+use Rattle.std.specs.declared.result.Result.the-variants.{Ok}
 use Rattle.std.specs.shelf.Lists.{All}
 use Rattle.std.proofs.shelf.Elements.{all-append, all-weaker, all-push}
-use Rattle.std.proofs.shelf.Tests.{cond-both, eqb-true}
+use Rattle.std.proofs.shelf.Tests.{eqb-true}
 use Rattle.std.proofs.shelf.Ways.{tells}
-use Rattle.messages.specs.Messages.{Msg, between}
+use Rattle.messages.specs.Messages.{Msg}
 use Rattle.wires.specs.Wire.{looked, taken}
-use Rattle.rules.specs.Counting.{count, upd}
-use Rattle.rules.specs.Party.{Setting, Party, Step}
+use Rattle.rules.specs.Counting.{upd}
+use Rattle.rules.specs.Party.{Party, Step}
 use Rattle.rules.specs.Step.{step, on-timer}
-use Rattle.agreement.specs.Ring.{Kind, Ring, setting, in-ring, honest}
+use Rattle.agreement.specs.Ring.{Kind, Ring, setting, honest}
 use Rattle.agreement.specs.Runs.{Shift}
 use Rattle.agreement.proofs.History.{Log, note}
 use Rattle.agreement.proofs.Effects.{Effect, E}
@@ -31,7 +30,7 @@ use Rattle.rules.specs.Quorums.{Quorums}
 use Rattle.agreement.proofs.Begin.{honest-parts, in-ring-parts}
 use Rattle.agreement.proofs.World.{World}
 use Rattle.agreement.proofs.Fair.{MsgFair, msg-grows, post-fair}
-use Rattle.agreement.proofs.Invariant.{Inv, upd-ind, upd-ind₂}
+use Rattle.agreement.proofs.Invariant.{Inv}
 use Rattle.agreement.proofs.Stepped.{grow}
 use Rattle.agreement.proofs.Kept.{inv-kept, grow-done}
 

@@ -1,35 +1,33 @@
 -- After an accepted set-up the invariant holds: nothing was said yet but suggests, proofs and requests.
-use Prim.Native.Nat.{ℕ, zero, suc, _+_, _*_, _≤_, _<_}
-use mathlib.Core.Bool.{Bool, true, false, cond, _&&_, _||_, not}
+use Prim.Native.Nat.{ℕ, zero, suc, _+_, _≤_, _<_}
+use mathlib.Core.Bool.{Bool, true, false, cond, _||_}
 use mathlib.Core.Path.{_≡_, refl, sym, _∙_, subst, subst₂, ap}
-use mathlib.Core.Logic.{_⊎_, inl, inr}
-use mathlib.Core.List.{List, [], _∷_, _++_}
+use mathlib.Core.Logic.{inl, inr}
+use mathlib.Core.List.{List, [], _++_}
 use native.Mathlib.Omega.{arith}
-use lib.Dec.{leb, ltb, eqb}
-use Rattle.std.specs.declared.option.Option.{Option}
 use Rattle.std.specs.declared.option.Option.the-variants.{Some, None}
 use Rattle.std.specs.shelf.Lists.{All}
 use Rattle.std.proofs.shelf.Elements.{all-append, all-weaker}
-use Rattle.std.proofs.shelf.Tests.{cond-both, eqb-true, or-cases}
+use Rattle.std.proofs.shelf.Tests.{or-cases}
 use Rattle.std.proofs.shelf.Ways.{tells}
-use Rattle.messages.specs.Messages.{Msg, between}
-use Rattle.rules.specs.Party.{Setting, Keyed, Suggest, Proof, nothing, Record, Party, Step, none}
+use Rattle.messages.specs.Messages.{Msg}
+use Rattle.rules.specs.Party.{Suggest, Proof, nothing, Record, Party}
 use Rattle.rules.specs.Posts.{view-msg}
 use Rattle.rules.specs.Thresholds.{quorum, voucher}
 use Rattle.rules.specs.Quorums.{Quorums}
-use Rattle.rules.specs.Step.{entered, enter, newcomer, empty-row}
-use Rattle.agreement.specs.Ring.{Kind, Ring, setting, in-ring, honest}
-use Rattle.agreement.specs.Calls.{Answer, said, Plan, named, own-of, planned, first-step, first-posts, set-up-done, own-allowed, set-up}
-use Rattle.agreement.specs.Runs.{Shift, begun}
+use Rattle.rules.specs.Step.{enter, newcomer, empty-row}
+use Rattle.agreement.specs.Ring.{Kind, Ring, setting, honest}
+use Rattle.agreement.specs.Calls.{said, Plan, named, own-of, planned, first-step, first-posts, set-up-done, set-up}
+use Rattle.agreement.specs.Runs.{begun}
 use Rattle.agreement.proofs.History.{Log, silent, note}
-use Rattle.agreement.proofs.Posts.{Post, Posts, enter-posts}
+use Rattle.agreement.proofs.Posts.{Post, enter-posts}
 use Rattle.agreement.proofs.Begin.{Started, started, every-at, honest-laws, honest-parts}
 use Rattle.agreement.proofs.World.{World, none-some}
 use Rattle.agreement.proofs.Notes.{LogOk}
 use Rattle.agreement.proofs.Keys.{Told, told-none}
-use Rattle.agreement.proofs.Fair.{RowFair, MsgFair, post-fair}
+use Rattle.agreement.proofs.Fair.{MsgFair, post-fair}
 use Rattle.agreement.proofs.Invariant.{Proved, Suggested, asked-of, Inv}
-use Rattle.agreement.proofs.Sound.{Fair, world, Sound}
+use Rattle.agreement.proofs.Sound.{Fair, Sound}
 
 -- the record of a party that has entered view 1 with its own value, and its log
 abbrev pub first-record : List ℕ → Record

@@ -1,11 +1,10 @@
 -- One part of a step of an honest party keeps why everything was said.
-use Prim.Native.Nat.{ℕ, zero, suc, pred, _+_, _≤_, _<_}
-use mathlib.Core.Bool.{Bool, true, false, cond, _&&_, _||_, not}
+use Prim.Native.Nat.{ℕ, zero, suc, _≤_, _<_}
+use mathlib.Core.Bool.{true, false}
 use mathlib.Core.Path.{_≡_, refl, sym, _∙_, subst, subst₂, ap}
 use mathlib.Core.Logic.{_⊎_, inl, inr}
 use mathlib.Core.List.{List}
 use native.Mathlib.Omega.{arith}
-use lib.Dec.{leb, ltb, eqb}
 use Rattle.std.specs.declared.option.Option.{Option}
 use Rattle.std.specs.declared.option.Option.the-variants.{Some, None}
 use Rattle.std.proofs.shelf.Tests.{cases-lt, cases-bool, leb-true, ltb-true}
@@ -13,18 +12,18 @@ use Rattle.values.specs.Same.{equal}
 use Rattle.values.proofs.Same.{same-from-equal, differ-from-equal}
 use Rattle.messages.specs.Messages.{Msg}
 use Rattle.rules.specs.Counting.{upd}
-use Rattle.rules.specs.Party.{Keyed, Suggest, Proof, Proposal, nothing, waiting, echoed, dropped, Record, Row, Party, none}
+use Rattle.rules.specs.Party.{Keyed, Proof, Party}
 use Rattle.rules.specs.Thresholds.{primary}
 use Rattle.rules.specs.Tests.{below, up-to, opens-lock, lock-opened, voted}
-use Rattle.agreement.proofs.History.{Log, echo-of, note}
+use Rattle.agreement.proofs.History.{Log, note}
 use Rattle.agreement.proofs.Effects.{Effect}
-use Rattle.agreement.proofs.World.{World, Cert, none-some, cert-has, cert-grows, voucher-has}
-use Rattle.agreement.proofs.Notes.{LogOk, Still, Grows, same-log, log-grows, vote-new}
+use Rattle.agreement.proofs.World.{World, Cert, none-some, cert-grows, voucher-has}
+use Rattle.agreement.proofs.Notes.{LogOk, Grows, same-log, log-grows, vote-new}
 use Rattle.agreement.proofs.Echoes.{Opening, Fresh, opens-parts, echo-new, direct-new, log-ok}
 use Rattle.agreement.proofs.Locks.{Other, Asked, Core, said-key1}
 use Rattle.agreement.proofs.Keys.{Told}
 use Rattle.agreement.proofs.Fair.{MsgFair}
-use Rattle.agreement.proofs.Invariant.{Proved, asked-of, echo-asked, Inv, upd-ind, other-grows, asked-grows, rows-now, by-vote, by-echo, proof-back}
+use Rattle.agreement.proofs.Invariant.{asked-of, echo-asked, Inv, upd-ind, other-grows, asked-grows, by-vote, by-echo, proof-back}
 
 -- key ≤ previous, where there is one
 up-to-some : (k at : ℕ) (o : Option ℕ) → up-to k o ≡ true → below o at ≡ true → (p : ℕ) × (o ≡ Some p) × (k ≤ p) × (p < at)

@@ -1,20 +1,19 @@
 -- A step is one, two or three parts: what each part keeps, the step keeps.
-use Prim.Native.Nat.{ℕ, zero, suc, _+_, _≤_, _<_, max}
-use mathlib.Core.Bool.{Bool, true, false, cond, _&&_, _||_, not}
-use mathlib.Core.Path.{_≡_, refl, sym, _∙_, subst}
-use mathlib.Core.Logic.{_⊎_, inl, inr}
-use mathlib.Core.List.{List, [], _∷_, _++_, append-assoc}
+use Prim.Native.Nat.{ℕ, _+_, _≤_, _<_, max}
+use mathlib.Core.Bool.{true, not}
+use mathlib.Core.Path.{_≡_, refl, subst}
+use mathlib.Core.List.{List, [], _++_, append-assoc}
 use native.Mathlib.Omega.{arith}
 use lib.Dec.{leb, ltb, eqb}
 use Rattle.std.specs.declared.option.Option.{Option}
 use Rattle.std.specs.declared.option.Option.the-variants.{Some, None}
-use Rattle.std.proofs.shelf.Tests.{cond-both, and-parts, eqb-true, leb-true}
+use Rattle.std.proofs.shelf.Tests.{cond-both, eqb-true}
 use Rattle.std.proofs.shelf.Ways.{tells}
-use Rattle.messages.specs.Messages.{Msg, between}
+use Rattle.messages.specs.Messages.{Msg}
 use Rattle.rules.specs.Party.{Setting, Proposal, nothing, waiting, echoed, dropped, Party, Step, with-rec, with-proposal, with-row, with-abort, still, and-then, none}
 use Rattle.rules.specs.Thresholds.{primary}
-use Rattle.rules.specs.Tests.{heeded, first-of-kind, primary-fits, is-nothing}
-use Rattle.rules.specs.Step.{on-request, on-suggest, wake, lock-fits, may-wait, on-propose, told-proof, on-proof, on-vote, on-lock, on-done, aborts, join-abort, leave, on-abort, on-timer, react, step}
+use Rattle.rules.specs.Tests.{heeded, is-nothing}
+use Rattle.rules.specs.Step.{wake, lock-fits, may-wait, on-propose, told-proof, on-proof, aborts, join-abort, leave, on-abort, on-timer, react, step}
 use Rattle.agreement.proofs.Effects.{E, still-effect, request-effect, suggest-effect, told-proof-effect, drop-effect, echo-effect, wait-effect, vote-effect, lock-effect, wake-effect, done-effect, raise-effect, told-abort-effect, join-effect, leave-effect}
 use Rattle.agreement.proofs.Posts.{Posts, still-posts, echo-posts, wake-posts, suggest-posts, vote-posts, lock-posts, raise-posts, join-posts, leave-posts, done-posts, request-posts}
 

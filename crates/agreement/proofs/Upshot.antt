@@ -1,8 +1,8 @@
 -- What follows from the invariant at one state, collected for the other counts.
-use Prim.Native.Nat.{ℕ, zero, suc, _+_, _≤_, _<_}
-use mathlib.Core.Bool.{Bool, true, false}
-use mathlib.Core.Path.{_≡_, refl, sym, _∙_, subst, ap}
-use mathlib.Core.Logic.{_⊎_, inl, inr}
+use Prim.Native.Nat.{ℕ, zero, suc, _≤_, _<_}
+use mathlib.Core.Bool.{true, false}
+use mathlib.Core.Path.{_≡_, refl, subst, ap}
+use mathlib.Core.Logic.{inl, inr}
 use mathlib.Core.List.{List}
 use native.Mathlib.Omega.{arith}
 use Rattle.std.specs.declared.option.Option.{Option}
@@ -11,8 +11,7 @@ use Rattle.std.proofs.shelf.Tests.{cases-lt}
 use Rattle.rules.specs.Party.{Suggest, Proof, Party, none}
 use Rattle.agreement.proofs.History.{Log}
 use Rattle.agreement.proofs.World.{World, Cert, none-some, cert-has}
-use Rattle.agreement.proofs.Notes.{LogOk}
-use Rattle.agreement.proofs.Locks.{Asked, Locked, to-key1, said-echo, one-view, locked, one-locked, said-allowed, locked-allowed}
+use Rattle.agreement.proofs.Locks.{Asked, Locked, one-view, locked, one-locked, said-allowed}
 use Rattle.agreement.proofs.Keys.{Told}
 use Rattle.agreement.proofs.Fair.{RowFair}
 use Rattle.agreement.proofs.Invariant.{Proved, Suggested, Inv}
