@@ -7,3 +7,4 @@ pub mod Step
 pub mod Bounds
 pub mod Quorums
 pub mod Figures
+pub mod Facts

@@ -1,2 +1,3 @@
-pub mod thresholds;
+pub mod facts;
 pub mod figures;
+pub mod thresholds;
