@@ -6,3 +6,5 @@ pub mod Tests
 pub mod Step
 pub mod Bounds
 pub mod Quorums
+pub mod Figures
+pub mod Facts

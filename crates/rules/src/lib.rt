@@ -1,1 +1,3 @@
+pub mod facts;
+pub mod figures;
 pub mod thresholds;
