@@ -14,3 +14,4 @@ pub mod Invariant
 pub mod Stepped
 pub mod Kept
 pub mod Sound
+pub mod SaidOnce
