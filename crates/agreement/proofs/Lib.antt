@@ -15,3 +15,4 @@ pub mod Stepped
 pub mod Kept
 pub mod Sound
 pub mod SaidOnce
+pub mod Alone
