@@ -52,19 +52,19 @@ pub fn u64_at(from: &[u8], at: usize) -> u64
 pub fn u16_bytes(n: u16) -> [u8; 2]
     ensures { λ r. ⌜ r ≡ be 2 n ⌝ }
 {
-    n.to_be_bytes()
+    u16::to_be_bytes(n)
 }
 
 // A number as four bytes.
 pub fn u32_bytes(n: u32) -> [u8; 4]
     ensures { λ r. ⌜ r ≡ be 4 n ⌝ }
 {
-    n.to_be_bytes()
+    u32::to_be_bytes(n)
 }
 
 // A number as eight bytes.
 pub fn u64_bytes(n: u64) -> [u8; 8]
     ensures { λ r. ⌜ r ≡ be 8 n ⌝ }
 {
-    n.to_be_bytes()
+    u64::to_be_bytes(n)
 }

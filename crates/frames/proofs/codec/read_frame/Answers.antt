@@ -37,7 +37,7 @@ returns-then-not-in-range g c =
     let bs = c .args .from .now in
     let x = c .in-Some .ensures tt .1 ∙ sym (first-part bs (v .width) (c .width-of-second .result) (c .width-of-second .ensures)) in
     let y = c .in-Some-read .ensures tt .1 ∙ sym (second-part bs (v .width) (c .width-of-second .result) (c .width-of-second .ensures)) in
-    let e = fields-are (v .width) bs (c .u32-at .result) (c .u32-at-2 .result) (c .u32-at-3 .result) (c .u32-at-4 .result) (c .previous-of .result) (v .bytes (c .in-Some .value)) (v .bytes (c .in-Some-read .second-value)) (c .u32-at .ensures) (c .u32-at-2 .ensures) (c .u32-at-3 .ensures) (c .u32-at-4 .ensures) (c .previous-of .ensures) x y in
+    let e = fields-are (v .width) bs (c .u32-at .result) (c .u32-at-2 .result) (c .u32-at-3 .result) (c .u32-at-4 .result) (c .previous-of .result) (v .bytes (c .in-Some .value)) (v .bytes (c .in-Some-read .second-value)) (cc) (cc) (cc) (cc) (cc) x y in
     (no-range (v .valid) (v .width) bs _ e (sym (c .if-not-in-range .ensures tt)), refl)
 
 pub returns : need.returns
@@ -46,7 +46,7 @@ returns g c =
     let bs = c .args .from .now in
     let x = c .in-Some .ensures tt .1 ∙ sym (first-part bs (v .width) (c .width-of-second .result) (c .width-of-second .ensures)) in
     let y = c .in-Some-read .ensures tt .1 ∙ sym (second-part bs (v .width) (c .width-of-second .result) (c .width-of-second .ensures)) in
-    let e = fields-are (v .width) bs (c .u32-at .result) (c .u32-at-2 .result) (c .u32-at-3 .result) (c .u32-at-4 .result) (c .previous-of .result) (v .bytes (c .in-Some .value)) (v .bytes (c .in-Some-read .second-value)) (c .u32-at .ensures) (c .u32-at-2 .ensures) (c .u32-at-3 .ensures) (c .u32-at-4 .ensures) (c .previous-of .ensures) x y in
+    let e = fields-are (v .width) bs (c .u32-at .result) (c .u32-at-2 .result) (c .u32-at-3 .result) (c .u32-at-4 .result) (c .previous-of .result) (v .bytes (c .in-Some .value)) (v .bytes (c .in-Some-read .second-value)) (cc) (cc) (cc) (cc) (cc) x y in
     let u : Under 256 bs = all-from-getD (λ b. b < 256) bs 0 (λ i h. omega (arith, c .typed .from i)) in
     let m = is-message (v .valid) (v .width) bs _ (c .if-from-frame-length .left ∙ c .frame-length .ensures) (c .if-from-ne0 .left) e (sym (c .if-not-in-range .ensures tt)) in
     (m, writes-back (v .valid) (v .width) bs _ u m)
