@@ -16,3 +16,4 @@ pub mod Kept
 pub mod Sound
 pub mod SaidOnce
 pub mod Alone
+pub mod ShutOut

@@ -1,1 +1,1 @@
-pub fn nothing() -> u8 { 0 }
+pub mod examples;
