@@ -37,3 +37,7 @@ pub mod ChoiceKept
 pub mod LiveGather
 pub mod LiveBegin
 pub mod NobodyLeft
+pub mod SaidOnce
+pub mod Alone
+pub mod ShutOut
+pub mod Counted
