@@ -16,4 +16,4 @@ returns g c =
     let m = message (v .bytes) (c .args .m .now) in
     let size = g .V·Value·met .sized (c .args .m .now .value) in
     let front = c .put .ensures ∙ ap (over (c .args .out .now) (c .args .at)) (c .header-head .ensures) in
-    three-writes (c .args .out .now) (c .put .last .out) (c .write .last .out) (c .write-2 .last .out) (head m) (m .value) (m .second-value) (c .args .at) 20 (20 + c .width-of-second .result) refl (omega arith) (omega arith) (omega arith) front (c .write .ensures) (c .write-2 .ensures)
+    three-writes (c .args .out .now) (c .put .last .out) (c .write .last .out) (c .write-2 .last .out) (head m) (m .value) (m .second-value) (c .args .at) 20 (20 + c .width-of-second .result) refl (omega arith) (omega arith) (omega arith) front (cc) (cc)
