@@ -15,5 +15,5 @@ pub mod Stepped
 pub mod Kept
 pub mod Sound
 pub mod SaidOnce
-pub mod Alone
+pub mod Deciding
 pub mod ShutOut
