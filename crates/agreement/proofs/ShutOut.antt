@@ -23,7 +23,7 @@ pub hasty-shut-out : Hasty-shut-out
 unfolding enter to-each
 hasty-shut-out one =
     let e : one-block ≡ other-block =
-      one 1 2 one-block other-block (record { trusty = refl; state = refl; value = refl }) (record { trusty = refl; state = refl; value = refl }) in
+    one 1 2 one-block other-block (record { trusty = refl; state = refl; value = refl }) (record { trusty = refl; state = refl; value = refl }) in
     let n : _≡_ {A = ℕ} 100 200 = ap (λ x. getD x 7 0) e in
     omega arith
 

@@ -14,6 +14,7 @@ use Rattle.agreement.specs.Calls.{said, refused, Plan, named, planned, first-s
 use Rattle.agreement.specs.Runs.{Call, hand, send, Shift, call, begun, shift}
 use Rattle.agreement.specs.Counts.{Said-once, Decided, Nobody-left}
 
+-- blocks as a kind of value
 abbrev pub block : Kind
 block = record { width = 14; valid = block-valid; allows = block-allows }
 
@@ -32,7 +33,14 @@ other-block = block-of 200 50 2
 abbrev pub unused : ℕ → Ring
 unused n =
     record {
-      n = 0; f = 0; faulty = λ _. false; parties = λ _. newcomer []; records = n; rows = n * n; wire = []; capacity = 1000
+      n = 0;
+      f = 0;
+      faulty = λ _. false;
+      parties = λ _. newcomer [];
+      records = n;
+      rows = n * n;
+      wire = [];
+      capacity = 1000;
     }
 
 -- ## A ring of one decides
@@ -84,6 +92,7 @@ honest-plan n = record { n = n; f = 0; word = 0; own = one-block ∷ other-block
 abbrev pub first-turned : (Step → Step) → ℕ → ℕ → Step
 first-turned turn n i = turn (first-step block (honest-plan n) (unused n) i)
 
+-- what the parties from 1 to i have then posted
 abbrev pub posts-turned : (Step → Step) → ℕ → ℕ → List Msg
 posts-turned turn n zero = []
 posts-turned turn n (suc i) = posts-turned turn n i ++ first-turned turn n (suc i) .posts
@@ -93,11 +102,17 @@ abbrev pub begun-turned : (Step → Step) → ℕ → Shift
 begun-turned turn n =
     record {
       ring = record {
-        n = n; f = 0; faulty = named 0;
+        n = n;
+        f = 0;
+        faulty = named 0;
         parties = λ i. cond (honest (planned block (honest-plan n) (unused n)) i) (first-turned turn n i .after) (unused n .parties i);
-        records = n; rows = n * n; wire = posts-turned turn n n; capacity = 1000
+        records = n;
+        rows = n * n;
+        wire = posts-turned turn n n;
+        capacity = 1000;
       };
-      posted = posts-turned turn n n; lost = []
+      posted = posts-turned turn n n;
+      lost = [];
     }
 
 -- with nothing changed it is the shift that set-up begins
@@ -120,11 +135,14 @@ stutter s = record { after = s .after; posts = s .posts ++ s .posts }
 abbrev pub One-value-now : Ring → Type 0
 One-value-now s = (i j : ℕ) (x y : List ℕ) → Decided block s i x → Decided block s j y → x ≡ y
 
+-- two parties that decide at once have two values
 abbrev pub Hasty-shut-out : Type 0
 Hasty-shut-out = One-value-now (begun-turned hasty 2 .ring) → ⊥
 
+-- with a party that posts nothing nothing waits, yet it is undecided
 abbrev pub Mute-shut-out : Type 0
 Mute-shut-out = Nobody-left block (begun-turned mute 1) → ⊥
 
+-- a party that posts twice has sent itself two requests for view 1
 abbrev pub Stutter-shut-out : Type 0
 Stutter-shut-out = Said-once (begun-turned stutter 1) → ⊥
