@@ -38,6 +38,6 @@ pub mod LiveGather
 pub mod LiveBegin
 pub mod NobodyLeft
 pub mod SaidOnce
-pub mod Alone
+pub mod Deciding
 pub mod ShutOut
 pub mod Counted

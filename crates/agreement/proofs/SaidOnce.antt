@@ -44,11 +44,11 @@ marked-step : (h : Shift) (me : ℕ) (w : List Msg) (r : Step) → ((j kind v : 
 marked-step h me w r once m =
     record {
       holds = λ i j kind v t.
-        rw (how-many-append (like i j kind v) (h .posted) (r .posts))
+          rw (how-many-append (like i j kind v) (h .posted) (r .posts))
           (cond-both (eqb i me) (r .after) (h .ring .parties i)
-            (λ (q : Party). how-many (like i j kind v) (h .posted) + how-many (like i j kind v) (r .posts) ≤ cond (used i q j kind v) 1 0)
-            (λ e. own i j kind v (sym (eqb-true i me e)) (m .holds i j kind v t))
-            (λ e. let z = not-mine me i j kind v (r .posts) (other i e) (once j kind v .mine) in let y = m .holds i j kind v t in omega arith))
+          (λ (q : Party). how-many (like i j kind v) (h .posted) + how-many (like i j kind v) (r .posts) ≤ cond (used i q j kind v) 1 0)
+          (λ e. own i j kind v (sym (eqb-true i me e)) (m .holds i j kind v t))
+          (λ e. let z = not-mine me i j kind v (r .posts) (other i e) (once j kind v .mine) in let y = m .holds i j kind v t in omega arith));
     }
   where
     own : (i j kind v : ℕ) → me ≡ i → how-many (like i j kind v) (h .posted) ≤ cond (used i (h .ring .parties i) j kind v) 1 0 →
@@ -63,7 +63,7 @@ marked-send : (h : Shift) (x : Msg) → h .ring .faulty (x .from) ≡ true → M
     (i j kind v : ℕ) → honest (h .ring) i ≡ true → how-many (like i j kind v) (h .posted ++ (x ∷ [])) ≤ cond (used i (h .ring .parties i) j kind v) 1 0
 marked-send h x f m i j kind v t =
     rw (how-many-append (like i j kind v) (h .posted) (x ∷ []))
-      (let z : how-many (like i j kind v) (x ∷ []) ≡ 0 = not-mine (x .from) i j kind v (x ∷ []) strange (refl, tt) in let y = m .holds i j kind v t in omega arith)
+    (let z : how-many (like i j kind v) (x ∷ []) ≡ 0 = not-mine (x .from) i j kind v (x ∷ []) strange (refl, tt) in let y = m .holds i j kind v t in omega arith)
   where
     go : (b : Bool) → eqb (x .from) i ≡ b → eqb (x .from) i ≡ false
     go true e =
@@ -81,7 +81,7 @@ marked-kept k =
       swallowed = λ h i m w e q f p. record { holds = p .holds };
       lose = λ h i m e p. record { holds = p .holds };
       send = λ h m f p. record { holds = marked-send h m f p };
-      timer = λ h i t d p. marked-step h i _ _ (λ j kind v. once-timer (setting k (h .ring)) i j kind v (h .ring .parties i)) p
+      timer = λ h i t d p. marked-step h i _ _ (λ j kind v. once-timer (setting k (h .ring)) i j kind v (h .ring .parties i)) p;
     }
 
 -- ## Set-up
@@ -90,11 +90,17 @@ abbrev outside : List ℕ → Party
 outside own =
     record {
       rec = record {
-        view = 0; field = first-field own; previous = λ _. None; decision = None; done = None;
+        view = 0;
+        field = first-field own;
+        previous = λ _. None;
+        decision = None;
+        done = None;
         suggest = record { key3 = record { at = 0; value = own }; key2 = record { at = 0; value = own }; previous = None };
-        proof = record { key1 = record { at = 0; value = own }; previous = None }; offer = None; proposal = nothing
+        proof = record { key1 = record { at = 0; value = own }; previous = None };
+        offer = None;
+        proposal = nothing;
       };
-      rows = λ _. empty-row
+      rows = λ _. empty-row;
     }
 
 module _ (k : Kind) (p : Plan) (s : Ring) where
@@ -126,7 +132,7 @@ module _ (k : Kind) (p : Plan) (s : Ring) where
     unfolding how-many
     part n =
         cond-both (named (p .word) n) [] (first-step k p s n .posts) (λ (ms : List Msg). N ms ≤ cond (eqb i n) B 0) (λ _. omega arith)
-          (λ _. plain (eqb i n) n refl)
+        (λ _. plain (eqb i n) n refl)
 
     sum : (a b c n : ℕ) → a ≤ cond (leb i n) c 0 → b ≤ cond (eqb i (suc n)) c 0 → a + b ≤ cond (leb i (suc n)) c 0
     sum a b c n h l = grind (arith, tells)
@@ -136,16 +142,16 @@ module _ (k : Kind) (p : Plan) (s : Ring) where
     first-marked zero = let z : N [] ≡ 0 = how-many-none (like i j kind v) [] tt in omega arith
     first-marked (suc n) =
         rw (how-many-append (like i j kind v) (first-posts k p s n) (cond (named (p .word) (suc n)) [] (first-step k p s (suc n) .posts)))
-          (sum _ _ B n (first-marked n) (part (suc n)))
+        (sum _ _ B n (first-marked n) (part (suc n)))
 
   -- the shift as set-up leaves it
   marked-done : Marked (record { ring = set-up-done k p s .after; posted = set-up-done k p s .posted; lost = [] })
   marked-done =
       record {
         holds = λ i j kind v t. let a = honest-parts (planned k p s) i t in
-          let b = first-marked i j kind v (a .2) (p .n) in
-          let c : leb i (p .n) ≡ true = le-leb _ _ (a .1) in
-          rw t (rw c at b)
+            let b = first-marked i j kind v (a .2) (p .n) in
+            let c : leb i (p .n) ≡ true = le-leb _ _ (a .1) in
+            rw t (rw c at b);
       }
 
 -- ## Every shift

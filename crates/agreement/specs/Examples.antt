@@ -1,18 +1,20 @@
 -- What the counts are worth: runs in which all decide, and a step for each count that the count shuts out.
-use Prim.Native.Nat.{ℕ, zero, suc, _*_}
+use Prim.Native.Nat.{ℕ, zero, suc, _*_, _≤_}
 use mathlib.Core.Path.{_≡_}
-use mathlib.Core.Bool.{false}
+use mathlib.Core.Bool.{false, cond}
 use mathlib.Core.List.{List, [], _∷_, _++_}
 use Rattle.values.specs.Bytes.{be}
 use Rattle.values.specs.Blocks.{block-valid, block-allows}
 use Rattle.messages.specs.Messages.{Msg}
-use Rattle.rules.specs.Party.{Setting, Party, Step, with-rec, with-decision}
-use Rattle.rules.specs.Step.{newcomer, enter}
-use Rattle.agreement.specs.Ring.{Kind, Ring, is-decided, setting, shown}
-use Rattle.agreement.specs.Calls.{Answer, said, refused, Plan, own-of, set-up}
-use Rattle.agreement.specs.Runs.{Call, hand, Shift, call, shift}
+use Rattle.rules.specs.Party.{Step, with-rec, with-decision}
+use Rattle.rules.specs.Posts.{vote-msg}
+use Rattle.rules.specs.Step.{newcomer}
+use Rattle.agreement.specs.Ring.{Kind, Ring, is-decided, setting, honest, shown}
+use Rattle.agreement.specs.Calls.{said, refused, Plan, named, planned, first-step, set-up}
+use Rattle.agreement.specs.Runs.{Call, hand, send, Shift, call, begun, shift}
 use Rattle.agreement.specs.Counts.{Said-once, Decided, Nobody-left}
 
+-- blocks as a kind of value
 abbrev pub block : Kind
 block = record { width = 14; valid = block-valid; allows = block-allows }
 
@@ -31,7 +33,14 @@ other-block = block-of 200 50 2
 abbrev pub unused : ℕ → Ring
 unused n =
     record {
-      n = 0; f = 0; faulty = λ _. false; parties = λ _. newcomer []; records = n; rows = n * n; wire = []; capacity = 1000
+      n = 0;
+      f = 0;
+      faulty = λ _. false;
+      parties = λ _. newcomer [];
+      records = n;
+      rows = n * n;
+      wire = [];
+      capacity = 1000;
     }
 
 -- ## A ring of one decides
@@ -55,33 +64,60 @@ pub record Alone-decides : Type 0 where
   pub nothing-waits : alone-after 10 .ring .wire ≡ []
   pub eleventh : call block (alone-after 10 .ring) (hand 0) .answer ≡ refused 9
 
--- ## Steps that the counts shut out
--- own values by party: 1 and 2 have different ones
-abbrev pub owns : List (List ℕ)
-owns = one-block ∷ other-block ∷ []
+-- ## Four decide though one lies
+-- parties 1 to 3 are honest and want different blocks, party 4 is faulty
+abbrev pub four : Plan
+four = record { n = 4; f = 1; word = 8; own = one-block ∷ other-block ∷ one-block ∷ [] ∷ [] }
 
--- n honest parties may each agree on a block
-abbrev pub small : ℕ → Setting
-small n = record { n = n; f = 0; width = 14; allows = block-allows }
+-- party 4 tells party j that the other block is done
+abbrev pub lie-to : ℕ → Call
+lie-to j = send (vote-msg (setting block (unused 4)) 4 10 0 other-block j)
+
+-- the shift after its lies and k hands
+abbrev pub four-after : ℕ → Shift
+four-after k = shift block four (unused 4) (lie-to 1 ∷ lie-to 2 ∷ lie-to 3 ∷ hands k)
+
+-- once everything is handed over, the honest three are decided on one block
+pub record Four-decide : Type 0 where
+  pub begins : set-up block four (unused 4) .answer ≡ said 0
+  pub decided : (i : ℕ) → 1 ≤ i → i ≤ 3 → Decided block (four-after 87 .ring) i one-block
+  pub nothing-waits : four-after 87 .ring .wire ≡ []
+
+-- ## Steps that the counts shut out
+-- n honest parties; 1 and 2 want different blocks
+abbrev pub honest-plan : ℕ → Plan
+honest-plan n = record { n = n; f = 0; word = 0; own = one-block ∷ other-block ∷ [] }
 
 -- the first step of party i of n, changed by `turn`
 abbrev pub first-turned : (Step → Step) → ℕ → ℕ → Step
-first-turned turn n i = turn (enter (small n) i (newcomer (own-of owns i)) 1)
+first-turned turn n i = turn (first-step block (honest-plan n) (unused n) i)
 
+-- what the parties from 1 to i have then posted
 abbrev pub posts-turned : (Step → Step) → ℕ → ℕ → List Msg
 posts-turned turn n zero = []
 posts-turned turn n (suc i) = posts-turned turn n i ++ first-turned turn n (suc i) .posts
 
--- the shift of n honest parties, each of which has taken its first step so changed
+-- the shift in which each party has taken its first step so changed
 abbrev pub begun-turned : (Step → Step) → ℕ → Shift
 begun-turned turn n =
     record {
       ring = record {
-        n = n; f = 0; faulty = λ _. false; parties = λ i. first-turned turn n i .after; records = n; rows = n * n;
-        wire = posts-turned turn n n; capacity = 1000
+        n = n;
+        f = 0;
+        faulty = named 0;
+        parties = λ i. cond (honest (planned block (honest-plan n) (unused n)) i) (first-turned turn n i .after) (unused n .parties i);
+        records = n;
+        rows = n * n;
+        wire = posts-turned turn n n;
+        capacity = 1000;
       };
-      posted = posts-turned turn n n; lost = []
+      posted = posts-turned turn n n;
+      lost = [];
     }
+
+-- with nothing changed it is the shift that set-up begins
+abbrev pub As-begun : ℕ → Type 0
+As-begun n = begun-turned (λ s. s) n ≡ begun block (honest-plan n) (unused n)
 
 -- decide the own value at once
 abbrev pub hasty : Step → Step
@@ -99,11 +135,14 @@ stutter s = record { after = s .after; posts = s .posts ++ s .posts }
 abbrev pub One-value-now : Ring → Type 0
 One-value-now s = (i j : ℕ) (x y : List ℕ) → Decided block s i x → Decided block s j y → x ≡ y
 
+-- two parties that decide at once have two values
 abbrev pub Hasty-shut-out : Type 0
 Hasty-shut-out = One-value-now (begun-turned hasty 2 .ring) → ⊥
 
+-- with a party that posts nothing nothing waits, yet it is undecided
 abbrev pub Mute-shut-out : Type 0
 Mute-shut-out = Nobody-left block (begun-turned mute 1) → ⊥
 
+-- a party that posts twice has sent itself two requests for view 1
 abbrev pub Stutter-shut-out : Type 0
 Stutter-shut-out = Said-once (begun-turned stutter 1) → ⊥

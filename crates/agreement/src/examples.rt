@@ -1,9 +1,24 @@
 // What the counts are worth. Each answer is 0; what counts is the contract.
-ghost use Rattle.agreement.specs.Examples.{Alone-decides, Hasty-shut-out, Mute-shut-out, Stutter-shut-out};
+ghost use Rattle.agreement.specs.Examples.{Alone-decides, As-begun, Four-decide, Hasty-shut-out, Mute-shut-out, Stutter-shut-out};
 
 // A party alone decides its own value in ten steps, and then nothing waits.
 pub fn all_decide_in_a_ring_of_one() -> u8
     ensures { λ _. ⌜ Alone-decides ⌝ }
+{
+    0
+}
+
+// Three honest parties with different values decide one of them, though a fourth lies to them.
+pub fn all_decide_in_a_ring_of_four() -> u8
+    ensures { λ _. ⌜ Four-decide ⌝ }
+{
+    0
+}
+
+// The first steps that the examples below change are, left alone, those of set-up.
+pub fn first_steps_are_those_of_set_up() -> u8
+    ensures one { λ _. ⌜ As-begun 1 ⌝ }
+    ensures two { λ _. ⌜ As-begun 2 ⌝ }
 {
     0
 }
