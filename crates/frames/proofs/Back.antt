@@ -10,9 +10,9 @@ use Rattle.std.specs.shelf.Digits.{number, Under}
 use Rattle.std.specs.declared.option.Option.{Option}
 use Rattle.std.specs.declared.option.Option.the-variants.{Some, None}
 use Rattle.std.proofs.shelf.Tests.{cond-both, cond-true, cond-false, and-from, and-parts, eqb-true, eq-eqb, ne-eqb}
-use Rattle.std.proofs.shelf.Lists.{drop-drop, drop-at, take-at, take-append-drop, append-assoc, length-append}
+use Rattle.std.proofs.shelf.Lists.{drop-drop, drop-at, take-at, append-assoc, length-append}
 use Rattle.values.specs.Bytes.{be}
-use Rattle.values.proofs.Numbers.{number-be, be-part}
+use Rattle.values.proofs.Numbers.{number-be, be-part, part-rest}
 use Rattle.messages.specs.Messages.{Msg, in-range, earlier-fits, uses-previous}
 use Rattle.messages.proofs.Ranges.{Fields, in-range-fields, view-small, key-small, earlier-small, value-length}
 use Rattle.frames.specs.Frames.{word, unword, head, frame, frame-length, word-at, fields, is-frame, unframe, Frame-length, Reads-back, Writes-back}
@@ -83,9 +83,6 @@ first-four (a ∷ []) h = absurd (omega arith)
 first-four (a ∷ b ∷ []) h = absurd (omega arith)
 first-four (a ∷ b ∷ c ∷ []) h = absurd (omega arith)
 first-four (a ∷ b ∷ c ∷ d ∷ ds) h = refl
-
-part-rest : (k at : ℕ) (bs : List ℕ) → take k (drop at bs) ++ drop (at + k) bs ≡ drop at bs
-part-rest k at bs = ap (λ w. take k (drop at bs) ++ w) (sym (drop-drop k at bs)) ∙ take-append-drop k (drop at bs)
 
 -- the parts after them, joined
 rejoined : (width : ℕ) (bs a b c d : List ℕ) → a ≡ take 4 (drop 4 bs) → b ≡ take 4 (drop 8 bs) → c ≡ take 4 (drop 12 bs) → d ≡ take 4 (drop 16 bs) → (a ++ (b ++ (c ++ d))) ++ (take width (drop 20 bs) ++ drop (20 + width) bs) ≡ drop 4 bs

@@ -6,6 +6,7 @@ use lib.Dec.{eqb, leb}
 use lib.ListN.{length, replicate}
 use Rattle.std.specs.declared.option.Option.{Option}
 use Rattle.std.specs.declared.option.Option.the-variants.{Some, None}
+use Rattle.values.specs.Limits.{party-limit}
 use Rattle.values.specs.Same.{equal}
 
 pub record Msg : Type 0 where
@@ -25,7 +26,7 @@ abbrev pub last-view : ℕ
 last-view = 2000000000
 
 abbrev pub most-parties : ℕ
-most-parties = 64
+most-parties = party-limit
 
 -- `x` lies from `low` to `high`
 abbrev pub between : ℕ → ℕ → ℕ → Bool

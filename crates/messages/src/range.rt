@@ -4,10 +4,8 @@ ghost use mathlib.Core.Path.{_≡_};
 ghost use Rattle.messages.specs.Meaning.{message};
 ghost use Rattle.messages.specs.Messages.{in-range, is-party, view-fits, key-fits, earlier-fits, value-fits, uses-view, uses-key, uses-value, uses-second, uses-previous};
 use crate::message::Message;
+use values::limits::MOST_PARTIES;
 use values::value::Value;
-
-// The largest number of parties of a ring.
-pub const MOST_PARTIES: u8 = 64;
 
 // The last view, and the largest key.
 pub const LAST_VIEW: u32 = 2_000_000_000;

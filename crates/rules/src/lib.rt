@@ -1,3 +1,1 @@
-pub fn nothing() -> u8 {
-    0
-}
+pub fn nothing() -> u8 { 0 }
