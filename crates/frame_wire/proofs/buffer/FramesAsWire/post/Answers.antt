@@ -1,3 +1,4 @@
+use borrow.Author.Needs.{needs}
 use native.Mathlib.Omega.{arith}
 use mathlib.Core.Path.{refl, sym, ap, _∙_}
 use Prim.Native.Nat.{_+_, _*_, _/_, _≤_, _<_}
@@ -41,9 +42,8 @@ returns g c =
     let fl = frame-length-stands (v .valid) (v .width) m (sym ok) in
     let back = ap (λ o. valueOr o (fixed-request (v .width))) (reads-back (v .valid) (v .width) m (sym ok)) in
     let fits : n * size + length (frame m) ≤ length b = rw fl (fits-at n b (v .width) size refl room) in
-    record {
-      kept = ap (λ l. l / size) (ap length (c .put-slot .ensures) ∙ length-over b (n * size) (frame m) fits);
-      test = free-test (v .valid) (v .width) most xs m ok free;
-      value = free-answer (v .valid) (v .width) most xs m ok free;
-      after = ap (frames-in (v .valid) (v .width) (n + 1)) (c .put-slot .ensures) ∙ (listing-more size hear n b (frame m) m room fl back ∙ free-after (v .valid) (v .width) most xs m ok free);
-    }
+    let kept = ap (λ l. l / size) (ap length (c .put-slot .ensures) ∙ length-over b (n * size) (frame m) fits) in
+    let test = free-test (v .valid) (v .width) most xs m ok free in
+    let value = free-answer (v .valid) (v .width) most xs m ok free in
+    let after = ap (frames-in (v .valid) (v .width) (n + 1)) (c .put-slot .ensures) ∙ (listing-more size hear n b (frame m) m room fl back ∙ free-after (v .valid) (v .width) most xs m ok free) in
+    search (needs, kept, test, value, after)
