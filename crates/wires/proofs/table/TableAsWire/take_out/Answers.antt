@@ -9,8 +9,10 @@ use Rattle.wires.specs.Wire.{fixed-request}
 use Rattle.wires.specs.Table.{entry, entries}
 use Rattle.std.specs.declared.result.Result.the-variants.{Ok}
 use Rattle.messages.specs.Messages.{Msg}
-use Rattle.wires.specs.Wire.{looked}
-use mathlib.Core.List.{map}
+use Rattle.wires.specs.Wire.{looked, taken}
+use mathlib.Core.List.{List, map}
+use lib.Seq.{paste}
+use Rattle.messages.specs.declared.message.Message.{Message}
 use Rattle.wires.proofs.Places.{length-front, looked-front, looked-past, taken-past, no-place, a-place, front-taken}
 use Rattle.wires.proofs.Ranges.{entry-ranged}
 use Rattle.wires.proofs.table.TableAsWire.take_out.Needs as need
@@ -42,5 +44,5 @@ returns g c =
     let test = a-place xs i here in
     let value : (m : Msg) → m ≡ getD (map f t) i (fixed-request (v .width)) → Ok m ≡ looked xs i = λ m k. looked-front f t n i (fixed-request (v .width)) m (omega (arith, e, h)) (omega (arith, e, h)) k in
     let ranged = entry-ranged (v .valid) (v .width) (g .V·Value·met .«blank_valid») (v .bytes) t in
-    let after = ap (entries (v .valid) (v .width) (v .bytes) (count - 1)) (c .take-entry-m .ensures .after) ∙ front-taken f t n count i e h in
+    let after : (new : List (Message _)) → new ≡ paste t i (drop (i + 1) t) (count - (i + 1)) → entries (v .valid) (v .width) (v .bytes) (count - 1) new ≡ taken xs i = λ new k. ap (entries (v .valid) (v .width) (v .bytes) (count - 1)) k ∙ front-taken f t n count i e h in
     search (needs, kept, test, value, ranged, after)
