@@ -111,6 +111,9 @@ heard-ranged valid width blank bs =
     (λ h. ap fair h ∙ fixed-ranged valid width blank)
     (cases-bool (is-frame valid width bs))
 
+pub heard-fair : (valid : List ℕ → Bool) (width : ℕ) → valid (replicate width 0) ≡ true → (bs : List ℕ) (m : Msg) → m ≡ heard valid width bs → in-range valid width m ≡ true
+heard-fair valid width blank bs m e = ap (in-range valid width) e ∙ heard-ranged valid width blank bs
+
 -- a buffer of places of `s` bytes, each heard as a message
 module _ (s : ℕ) (hear : List ℕ → Msg) where
   abbrev pub listing : ℕ → List ℕ → List Msg

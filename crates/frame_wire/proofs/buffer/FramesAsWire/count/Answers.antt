@@ -1,5 +1,4 @@
 use native.Mathlib.Omega.{arith}
-use mathlib.Core.Path.{sym, ap, _∙_}
 use Prim.Native.Nat.{min}
 use Rattle.frames.specs.Frames.{frame-length}
 use Rattle.frame_wire.specs.Buffer.{heard}
@@ -12,4 +11,4 @@ returns g c =
     let b = c .args .self .now .buffer .now in
     let n = c .args .self .now .count in
     let l = length-listing (frame-length (v .width)) (heard (v .valid) (v .width)) n b in
-    record { value = c .min .ensures ∙ (ap (min n) (c .places-of .ensures) ∙ sym l); within = omega (arith, l); ranged = all-listed (v .valid) (v .width) n b (g .V·Value·met .«blank_valid») }
+    record { value = omega (arith, l, c .min .ensures, c .places-of .ensures); within = omega (arith, l); ranged = all-listed (v .valid) (v .width) n b (g .V·Value·met .«blank_valid») }

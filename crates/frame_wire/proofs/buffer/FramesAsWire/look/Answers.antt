@@ -1,13 +1,15 @@
+use borrow.Author.Needs.{needs}
 use native.Mathlib.Omega.{arith}
-use mathlib.Core.Path.{sym, ap, _∙_}
+use mathlib.Core.Path.{_≡_, sym, ap, _∙_}
 use Prim.Native.Nat.{_≤_, _<_, min}
 use lib.ListN.{length}
-use Rattle.messages.specs.Meaning.{message}
-use Rattle.messages.specs.Messages.{in-range}
 use Rattle.frames.specs.Frames.{frame-length}
+use Rattle.std.specs.declared.result.Result.the-variants.{Ok}
+use Rattle.messages.specs.Messages.{Msg}
+use Rattle.wires.specs.Wire.{looked}
 use Rattle.wires.proofs.Places.{looked-past, no-place, a-place}
 use Rattle.frame_wire.specs.Buffer.{heard, slot, frames-in}
-use Rattle.frame_wire.proofs.Slots.{length-listing, looked-listing, heard-ranged}
+use Rattle.frame_wire.proofs.Slots.{length-listing, looked-listing, heard-fair}
 use Rattle.frame_wire.proofs.buffer.FramesAsWire.look.Needs as need
 
 pub returns-then-i-count : need.returns-then-i-count
@@ -29,11 +31,9 @@ returns g c =
     let size = frame-length (v .width) in
     let hear = heard (v .valid) (v .width) in
     let xs = frames-in (v .valid) (v .width) n b in
-    let m = message (v .bytes) (c .in-slot .result) in
-    let e = c .min-count .ensures ∙ ap (min n) (c .places-of .ensures) in
-    let here : i < length xs = omega (arith, e, length-listing size hear n b, c .if-i-count .left) in
-    record {
-      test = a-place xs i here;
-      value = looked-listing size hear n i b m (omega (arith, e, c .if-i-count .left)) (omega (arith, e, c .if-i-count .left)) (c .in-slot .ensures);
-      ranged = ap (in-range (v .valid) (v .width)) (c .in-slot .ensures) ∙ heard-ranged (v .valid) (v .width) (g .V·Value·met .«blank_valid») (slot (v .width) b i);
-    }
+    let e₀ = c .min-count .ensures ∙ ap (min n) (c .places-of .ensures) in
+    let here : i < length xs = omega (arith, e₀, length-listing size hear n b, c .if-i-count .left) in
+    let test = a-place xs i here in
+    let value : (m : Msg) → m ≡ hear (slot (v .width) b i) → Ok m ≡ looked xs i = λ m e. looked-listing size hear n i b m (omega (arith, e₀, c .if-i-count .left)) (omega (arith, e₀, c .if-i-count .left)) e in
+    let ranged = heard-fair (v .valid) (v .width) (g .V·Value·met .«blank_valid») in
+    search (needs, test, value, ranged)

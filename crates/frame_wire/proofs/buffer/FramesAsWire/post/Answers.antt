@@ -1,13 +1,16 @@
+use borrow.Author.Needs.{needs}
 use native.Mathlib.Omega.{arith}
-use mathlib.Core.Path.{refl, sym, ap, _∙_}
-use Prim.Native.Nat.{_+_, _*_, _/_, _≤_, _<_}
+use mathlib.Core.Path.{_≡_, refl, sym, ap, _∙_}
+use mathlib.Core.List.{List}
+use Prim.Native.Nat.{ℕ, _+_, _*_, _/_, _≤_, _<_}
 use lib.ListN.{length}
 use Rattle.std.specs.Options.{valueOr}
+use Rattle.values.specs.Bytes.{over}
 use Rattle.values.proofs.Writes.{length-over}
 use Rattle.messages.specs.Meaning.{message}
 use Rattle.frames.specs.Frames.{frame, frame-length}
 use Rattle.frames.proofs.Back.{frame-length-stands, reads-back}
-use Rattle.wires.specs.Wire.{fixed-request}
+use Rattle.wires.specs.Wire.{fixed-request, posted}
 use Rattle.wires.proofs.Places.{full-test, full-answer, full-after, free-test, free-answer, free-after}
 use Rattle.frame_wire.specs.Buffer.{places, heard, frames-in}
 use Rattle.frame_wire.proofs.Slots.{length-listing, listing-more, fits-at}
@@ -41,9 +44,8 @@ returns g c =
     let fl = frame-length-stands (v .valid) (v .width) m (sym ok) in
     let back = ap (λ o. valueOr o (fixed-request (v .width))) (reads-back (v .valid) (v .width) m (sym ok)) in
     let fits : n * size + length (frame m) ≤ length b = rw fl (fits-at n b (v .width) size refl room) in
-    record {
-      kept = ap (λ l. l / size) (ap length (c .put-slot .ensures) ∙ length-over b (n * size) (frame m) fits);
-      test = free-test (v .valid) (v .width) most xs m ok free;
-      value = free-answer (v .valid) (v .width) most xs m ok free;
-      after = ap (frames-in (v .valid) (v .width) (n + 1)) (c .put-slot .ensures) ∙ (listing-more size hear n b (frame m) m room fl back ∙ free-after (v .valid) (v .width) most xs m ok free);
-    }
+    let kept : (new : List ℕ) → new ≡ over b (n * size) (frame m) → places (v .width) new ≡ most = λ new e. ap (λ l. l / size) (ap length e ∙ length-over b (n * size) (frame m) fits) in
+    let test = free-test (v .valid) (v .width) most xs m ok free in
+    let value = free-answer (v .valid) (v .width) most xs m ok free in
+    let after : (new : List ℕ) → new ≡ over b (n * size) (frame m) → frames-in (v .valid) (v .width) (n + 1) new ≡ posted (v .valid) (v .width) most xs m = λ new e. ap (frames-in (v .valid) (v .width) (n + 1)) e ∙ (listing-more size hear n b (frame m) m room fl back ∙ free-after (v .valid) (v .width) most xs m ok free) in
+    search (needs, kept, test, value, after)

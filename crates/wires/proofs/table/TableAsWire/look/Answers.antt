@@ -10,5 +10,5 @@ returns-then-i-self g c = search (needs, length-front, looked-past, no-place)
 pub returns : need.returns
 returns g c =
     let v = g .V·Value in
-    let fair = entry-ranged (v .valid) (v .width) (g .V·Value·met .«blank_valid») (v .bytes) (c .args .self .now .table .now) (c .args .i) (message (v .bytes) (c .entry-at .result)) (c .entry-at .ensures) in
+    let fair = entry-ranged (v .valid) (v .width) (g .V·Value·met .«blank_valid») (v .bytes) (c .args .self .now .table .now) _ (message (v .bytes) (c .entry-at .result)) (c .entry-at .ensures) in
     search (needs, length-front, looked-front, a-place, fair)

@@ -1,8 +1,9 @@
+use borrow.Author.Needs.{needs}
 use native.Mathlib.Omega.{arith}
 use mathlib.Core.Path.{_≡_, refl, sym, ap, _∙_}
 use mathlib.Core.Bool.{cond}
 use mathlib.Core.List.{[], _∷_, _++_}
-use Prim.Native.Nat.{_≤_, _<_, _+_}
+use Prim.Native.Nat.{_≤_, _<_}
 use lib.ListN.{length}
 use Rattle.std.proofs.shelf.Lists.{length-set}
 use Rattle.messages.specs.Meaning.{message}
@@ -33,9 +34,8 @@ returns g c =
     let ok = c .if-not-in-range .ensures tt in
     let free : length xs < length t = omega (arith, length-front f t n, c .if-count-self .left) in
     let own : f (c .args .m .now) ≡ m = ap (λ b. cond b m (fixed-request (v .width))) (sym ok) in
-    record {
-      kept = ap length (c .put-entry .ensures) ∙ length-set t n (c .args .m .now);
-      test = free-test (v .valid) (v .width) (length t) xs m ok free;
-      value = free-answer (v .valid) (v .width) (length t) xs m ok free;
-      after = ap (entries (v .valid) (v .width) (v .bytes) (n + 1)) (c .put-entry .ensures) ∙ (front-more f t n (c .args .m .now) (c .if-count-self .left) ∙ (ap (λ x. xs ++ x ∷ []) own ∙ free-after (v .valid) (v .width) (length t) xs m ok free));
-    }
+    let kept = length-set t n (c .args .m .now) in
+    let test = free-test (v .valid) (v .width) (length t) xs m ok free in
+    let value = free-answer (v .valid) (v .width) (length t) xs m ok free in
+    let after = front-more f t n (c .args .m .now) (c .if-count-self .left) ∙ (ap (λ x. xs ++ x ∷ []) own ∙ free-after (v .valid) (v .width) (length t) xs m ok free) in
+    search (needs, kept, test, value, after)

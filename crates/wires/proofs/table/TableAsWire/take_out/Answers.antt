@@ -1,12 +1,18 @@
+use borrow.Author.Needs.{needs}
 use native.Mathlib.Omega.{arith}
-use mathlib.Core.Path.{refl, ap, _∙_}
+use mathlib.Core.Path.{_≡_, refl, ap, _∙_}
 use Prim.Native.Nat.{_≤_, _<_, _+_, _-_}
-use lib.ListN.{length, drop}
+use lib.ListN.{length, drop, getD}
 use Rattle.std.proofs.shelf.Lists.{length-drop}
 use Rattle.std.proofs.shelf.Edits.{length-paste}
-use Rattle.messages.specs.Meaning.{message}
 use Rattle.wires.specs.Wire.{fixed-request}
 use Rattle.wires.specs.Table.{entry, entries}
+use Rattle.std.specs.declared.result.Result.the-variants.{Ok}
+use Rattle.messages.specs.Messages.{Msg}
+use Rattle.wires.specs.Wire.{looked, taken}
+use mathlib.Core.List.{List, map}
+use lib.Seq.{paste}
+use Rattle.messages.specs.declared.message.Message.{Message}
 use Rattle.wires.proofs.Places.{length-front, looked-front, looked-past, taken-past, no-place, a-place, front-taken}
 use Rattle.wires.proofs.Ranges.{entry-ranged}
 use Rattle.wires.proofs.table.TableAsWire.take_out.Needs as need
@@ -34,10 +40,9 @@ returns g c =
     let here : i < length xs = omega (arith, length-front f t n, e, h) in
     let within : i + (count - (i + 1)) ≤ length t = omega (arith, e, h) in
     let enough : count - (i + 1) ≤ length (drop (i + 1) t) = omega (arith, length-drop (i + 1) t, e, h) in
-    record {
-      kept = ap length (c .take-entry-m .ensures .after) ∙ length-paste t i (drop (i + 1) t) (count - (i + 1)) within enough;
-      test = a-place xs i here;
-      value = looked-front f t n i (fixed-request (v .width)) (message (v .bytes) (c .take-entry-m .result)) (omega (arith, e, h)) (omega (arith, e, h)) (c .take-entry-m .ensures .value);
-      ranged = entry-ranged (v .valid) (v .width) (g .V·Value·met .«blank_valid») (v .bytes) t i (message (v .bytes) (c .take-entry-m .result)) (c .take-entry-m .ensures .value);
-      after = ap (entries (v .valid) (v .width) (v .bytes) (count - 1)) (c .take-entry-m .ensures .after) ∙ front-taken f t n count i e h;
-    }
+    let kept = length-paste t i (drop (i + 1) t) (count - (i + 1)) within enough in
+    let test = a-place xs i here in
+    let value : (m : Msg) → m ≡ getD (map f t) i (fixed-request (v .width)) → Ok m ≡ looked xs i = λ m k. looked-front f t n i (fixed-request (v .width)) m (omega (arith, e, h)) (omega (arith, e, h)) k in
+    let ranged = entry-ranged (v .valid) (v .width) (g .V·Value·met .«blank_valid») (v .bytes) t in
+    let after : (new : List (Message _)) → new ≡ paste t i (drop (i + 1) t) (count - (i + 1)) → entries (v .valid) (v .width) (v .bytes) (count - 1) new ≡ taken xs i = λ new k. ap (entries (v .valid) (v .width) (v .bytes) (count - 1)) k ∙ front-taken f t n count i e h in
+    search (needs, kept, test, value, ranged, after)

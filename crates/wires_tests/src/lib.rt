@@ -1,0 +1,5 @@
+// Both wires, driven through the same calls.
+#[cfg(test)]
+mod drive;
+#[cfg(test)]
+mod tests;
