@@ -139,7 +139,7 @@ fn table_of_three() -> Result<(), Fail> {
 #[test]
 fn buffer_of_three() -> Result<(), Fail> {
     let mut buffer = [0u8; 103];
-    let mut w = FrameWire::<Order>::new(&mut buffer);
+    let mut w = FrameWire::new(&mut buffer);
     run(&mut w, &THREE_PLACES, &Order::Hold)
 }
 
@@ -149,7 +149,7 @@ fn the_same_answers() -> Result<(), Fail> {
     let mut table = [fixed_request::<Block>(); 5];
     let mut buffer = [255u8; 250];
     let mut a = TableWire::new(&mut table);
-    let mut b = FrameWire::<Block>::new(&mut buffer);
+    let mut b = FrameWire::new(&mut buffer);
     let value = Block {
         first: 100,
         count: 50,
