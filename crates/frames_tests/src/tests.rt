@@ -226,87 +226,27 @@ fn pace_proof() -> Result<(), Fail> {
     };
     let mut out = [0u8; 26];
     check_eq(write_frame(&m, &mut out)?, 26)?;
-    check(
-        out
-            == [
-                3,
-                1,
-                4,
-                0,
-                0,
-                0,
-                0,
-                3,
-                0,
-                0,
-                0,
-                0,
-                0,
-                0,
-                0,
-                0,
-                255,
-                255,
-                255,
-                255,
-                3,
-                2,
-                88,
-                0,
-                0,
-                0,
-            ],
-    )
+    check(out == *b"\x03\x01\x04\x00\x00\x00\x00\x03\x00\x00\x00\x00\x00\x00\x00\x00\xff\xff\xff\xff\x03\x02\x58\x00\x00\x00")
+}
+
+// A block by its numbers.
+fn block(first: u64, count: u32, party: u16) -> Block {
+    Block { first, count, party }
 }
 
 #[test]
-fn allowed_values() -> Result<(), Fail> {
-    let last = u64::MAX;
-    check(Block {
-        first: last,
-        count: 1,
-        party: 1,
-    }.allowed())?;
-    check(
-        !Block {
-            first: last,
-            count: 2,
-            party: 1,
-        }.allowed(),
-    )?;
-    check(
-        !Block {
-            first: 0,
-            count: 0,
-            party: 1,
-        }.allowed(),
-    )?;
-    check(Block {
-        first: 0,
-        count: 1_000_000,
-        party: 64,
-    }.allowed())?;
-    check(
-        !Block {
-            first: 0,
-            count: 1_000_001,
-            party: 64,
-        }.allowed(),
-    )?;
-    check(
-        !Block {
-            first: 0,
-            count: 1,
-            party: 0,
-        }.allowed(),
-    )?;
-    check(
-        !Block {
-            first: 0,
-            count: 1,
-            party: 65,
-        }.allowed(),
-    )?;
+fn allowed_blocks() -> Result<(), Fail> {
+    check(block(u64::MAX, 1, 1).allowed())?;
+    check(!block(u64::MAX, 2, 1).allowed())?;
+    check(!block(0, 0, 1).allowed())?;
+    check(block(0, 1_000_000, 64).allowed())?;
+    check(!block(0, 1_000_001, 64).allowed())?;
+    check(!block(0, 1, 0).allowed())?;
+    check(!block(0, 1, 65).allowed())
+}
+
+#[test]
+fn allowed_orders() -> Result<(), Fail> {
     check(Order::Hold.allowed() && Order::Resume.allowed() && !Order::Blank.allowed())?;
     check(Rate::new(0).is_none() && Rate::new(601).is_none())?;
     let Some(rate) = Rate::new(1) else {

@@ -38,7 +38,7 @@ fn walk_message<V: Readable>(rt: &LibcRuntime, m: &Message<V>) -> Result<(), Any
     Ok(())
 }
 
-pub fn walk_frames<V: Readable>(rt: &LibcRuntime, messages: &[Message<V>]) -> Result<(), AnyError> {
+pub(crate) fn walk_frames<V: Readable>(rt: &LibcRuntime, messages: &[Message<V>]) -> Result<(), AnyError> {
     for m in messages {
         walk_message(rt, m)?;
     }

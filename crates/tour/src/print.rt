@@ -8,7 +8,7 @@ use values::block::BlockValue;
 use values::order::OrderValue;
 
 // A kind of value that a person can read.
-pub trait Readable: Value {
+pub(crate) trait Readable: Value {
     fn tell(&self, rt: &LibcRuntime) -> Result<(), AnyError>;
 }
 
@@ -37,7 +37,7 @@ pub impl Readable for Order as OrderReadable {
     }
 }
 
-pub fn kind_name(kind: u8) -> &'static str {
+pub(crate) fn kind_name(kind: u8) -> &'static str {
     match kind {
         1 => "request",
         2 => "suggest",
@@ -55,7 +55,7 @@ pub fn kind_name(kind: u8) -> &'static str {
 }
 
 // Bytes as two digits each, with spaces between.
-pub fn print_hex(rt: &LibcRuntime, bytes: &[u8]) -> Result<(), AnyError> {
+pub(crate) fn print_hex(rt: &LibcRuntime, bytes: &[u8]) -> Result<(), AnyError> {
     for (i, b) in bytes.iter().enumerate() {
         if i > 0 {
             print!(rt, " ")?;
@@ -75,7 +75,7 @@ fn print_previous(rt: &LibcRuntime, previous: Option<u32>) -> Result<(), AnyErro
 }
 
 // A message in one line, with the fields that its kind uses.
-pub fn print_message<V: Readable>(rt: &LibcRuntime, m: &Message<V>) -> Result<(), AnyError> {
+pub(crate) fn print_message<V: Readable>(rt: &LibcRuntime, m: &Message<V>) -> Result<(), AnyError> {
     let kind = kind_name(m.kind);
     let from = m.from;
     let to = m.to;

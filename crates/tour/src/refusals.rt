@@ -26,7 +26,7 @@ fn read_answer(bytes: &[u8]) -> Result<usize, FrameFault> {
     Ok(bytes.len())
 }
 
-pub fn show_refusals(rt: &LibcRuntime) -> Result<(), AnyError> {
+pub(crate) fn show_refusals(rt: &LibcRuntime) -> Result<(), AnyError> {
     let good = block_messages()[1];
     let mut frame = [0u8; 48];
     print_answer(rt, "an echo into 48 bytes", write_frame(&good, &mut frame))?;

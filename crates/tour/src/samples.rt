@@ -8,7 +8,7 @@ use values::rate::Rate;
 use values::value::Value;
 
 // A message that uses the view alone.
-pub fn request<V: Value>(from: u8, to: u8, view: u32) -> Message<V> {
+pub(crate) fn request<V: Value>(from: u8, to: u8, view: u32) -> Message<V> {
     Message {
         kind: 1,
         from,
@@ -23,12 +23,12 @@ pub fn request<V: Value>(from: u8, to: u8, view: u32) -> Message<V> {
 }
 
 // A proof: key1 with its value, and the key before it.
-pub fn proof<V: Value>(from: u8, to: u8, view: u32, key: u32, value: V, previous: Option<u32>) -> Message<V> {
+pub(crate) fn proof<V: Value>(from: u8, to: u8, view: u32, key: u32, value: V, previous: Option<u32>) -> Message<V> {
     Message { kind: 3, from, to, view, key, value, second_key: 0, second_value: V::blank(), previous }
 }
 
 // An echo of a value.
-pub fn echo<V: Value>(from: u8, to: u8, view: u32, value: V) -> Message<V> {
+pub(crate) fn echo<V: Value>(from: u8, to: u8, view: u32, value: V) -> Message<V> {
     Message {
         kind: 5,
         from,
@@ -43,14 +43,14 @@ pub fn echo<V: Value>(from: u8, to: u8, view: u32, value: V) -> Message<V> {
 }
 
 // Messages about blocks; the last has a view beyond the last one.
-pub fn block_messages() -> [Message<Block>; 4] {
+pub(crate) fn block_messages() -> [Message<Block>; 4] {
     let wish = Block { first: 100, count: 50, party: 1 };
     let last = Block { first: u64::MAX, count: 1, party: 64 };
     [request(2, 1, 1), echo(3, 2, 1, wish), proof(1, 4, 7, 5, last, Some(2)), request(3, 3, 2_000_000_001)]
 }
 
 // Messages about orders; the second is a proof with the fastest pace and no key yet, the last has no receiver.
-pub fn order_messages() -> [Message<Order>; 4] {
+pub(crate) fn order_messages() -> [Message<Order>; 4] {
     let pace = match Rate::new(600) {
         Some(rate) => Order::Pace(rate),
         None => Order::Hold,

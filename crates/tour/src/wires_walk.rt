@@ -39,7 +39,7 @@ fn post_and_print<V: Readable, W: Wire<V>>(rt: &LibcRuntime, wire: &mut W, m: &M
 }
 
 // Posts all messages, looks at the second, and takes them out in another order until none is left.
-pub fn walk_wire<V: Readable, W: Wire<V>>(rt: &LibcRuntime, wire: &mut W, messages: &[Message<V>]) -> Result<(), AnyError> {
+pub(crate) fn walk_wire<V: Readable, W: Wire<V>>(rt: &LibcRuntime, wire: &mut W, messages: &[Message<V>]) -> Result<(), AnyError> {
     print_state(rt, wire)?;
     for m in messages {
         post_and_print(rt, wire, m)?;
