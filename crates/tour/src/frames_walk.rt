@@ -1,7 +1,7 @@
 // Messages written as frames and read back.
-use crate::print::print_hex;
-use crate::print::print_message;
-use crate::print::Readable;
+use describe::message::print_hex;
+use describe::message::print_message;
+use describe::message::Readable;
 use frames::codec::read_frame;
 use frames::codec::write_frame;
 use messages::message::Message;

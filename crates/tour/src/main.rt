@@ -1,15 +1,14 @@
 // A walk through the engine, every step printed: messages of both kinds become frames, come back,
 // travel over both wires, and each refusal of the frames part is met once.
 mod frames_walk;
-mod print;
 mod refusals;
 mod samples;
 mod wires_walk;
 
 use crate::frames_walk::walk_frames;
-use crate::print::BlockReadable;
-use crate::print::OrderReadable;
-use crate::print::Readable;
+use describe::message::BlockReadable;
+use describe::message::OrderReadable;
+use describe::message::Readable;
 use crate::refusals::show_refusals;
 use crate::samples::block_messages;
 use crate::samples::order_messages;

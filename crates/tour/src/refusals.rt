@@ -1,5 +1,5 @@
 // Each refusal that the frames part can give, met once.
-use crate::print::BlockReadable;
+use describe::message::BlockReadable;
 use crate::samples::block_messages;
 use frames::codec::read_frame;
 use frames::codec::write_frame;

@@ -1,6 +1,6 @@
 // Messages travel over a wire, whichever it is.
-use crate::print::print_message;
-use crate::print::Readable;
+use describe::message::print_message;
+use describe::message::Readable;
 use messages::message::Message;
 use std::error::AnyError;
 use wires::wire::Wire;

@@ -1,4 +1,4 @@
-// How the walk prints bytes, values and messages.
+// Bytes, values and messages in plain words.
 use messages::message::Message;
 use std::error::AnyError;
 use values::block::Block;
@@ -8,7 +8,7 @@ use values::block::BlockValue;
 use values::order::OrderValue;
 
 // A kind of value that a person can read.
-pub(crate) trait Readable: Value {
+pub trait Readable: Value {
     fn tell(&self, rt: &LibcRuntime) -> Result<(), AnyError>;
 }
 
@@ -37,7 +37,7 @@ pub impl Readable for Order as OrderReadable {
     }
 }
 
-pub(crate) fn kind_name(kind: u8) -> &'static str {
+pub fn kind_name(kind: u8) -> &'static str {
     match kind {
         1 => "request",
         2 => "suggest",
@@ -55,7 +55,7 @@ pub(crate) fn kind_name(kind: u8) -> &'static str {
 }
 
 // Bytes as two digits each, with spaces between.
-pub(crate) fn print_hex(rt: &LibcRuntime, bytes: &[u8]) -> Result<(), AnyError> {
+pub fn print_hex(rt: &LibcRuntime, bytes: &[u8]) -> Result<(), AnyError> {
     for (i, b) in bytes.iter().enumerate() {
         if i > 0 {
             print!(rt, " ")?;
@@ -75,7 +75,7 @@ fn print_previous(rt: &LibcRuntime, previous: Option<u32>) -> Result<(), AnyErro
 }
 
 // A message in one line, with the fields that its kind uses.
-pub(crate) fn print_message<V: Readable>(rt: &LibcRuntime, m: &Message<V>) -> Result<(), AnyError> {
+pub fn print_message<V: Readable>(rt: &LibcRuntime, m: &Message<V>) -> Result<(), AnyError> {
     let kind = kind_name(m.kind);
     let from = m.from;
     let to = m.to;

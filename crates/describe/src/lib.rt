@@ -1,0 +1,2 @@
+// Values, messages and what a step changed, printed for a person.
+pub mod message;
