@@ -66,3 +66,10 @@ pieces-last stop [] h = refl
 pieces-last stop (b ∷ bs) h =
     elim (eqb b stop) as (λ v. (v || has stop bs) ≡ false → cond v ([] ∷ pieces stop bs) (onto b (pieces stop bs)) ≡ (b ∷ bs) ∷ [])
     [ true ↦ λ e. (let z : _≡_ {A = ℕ} 0 1 = cc in absurd (omega arith)) | false ↦ λ e. rw (pieces-last stop bs e) refl ] h
+
+-- the text after a stop is shorter
+pub length-after : (stop : ℕ) (bs : List ℕ) → has stop bs ≡ true → length (after stop bs) < length bs
+length-after stop [] h = let z : _≡_ {A = ℕ} 0 1 = cc in absurd (omega arith)
+length-after stop (b ∷ bs) h =
+    elim (eqb b stop) as (λ v. (v || has stop bs) ≡ true → length (cond v bs (after stop bs)) < length (b ∷ bs))
+    [ true ↦ λ e. omega arith | false ↦ λ e. (let l = length-after stop bs e in omega arith) ] h

@@ -1,4 +1,6 @@
 // The parts of a run sheet's line: cuts at a byte, numbers, the set of faulty parties.
 pub mod fault;
 pub mod cuts;
+pub mod texts;
 pub mod number;
+pub mod parties;
