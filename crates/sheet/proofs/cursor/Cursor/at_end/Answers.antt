@@ -1,0 +1,7 @@
+use Rattle.sheet.proofs.Walk.{ends-alike, some-left}
+use Rattle.sheet.proofs.cursor.Cursor.at_end.Needs as need
+
+pub returns : need.returns
+returns c =
+    let s = c .args .self .now in
+    ends-alike (s .sheet .now) (s .at) (s .passed) (s .along) (some-left (s .sheet .now) (s .at) (s .passed) (s .along))

@@ -1,0 +1,17 @@
+-- What a fault answers: its number, and the number of its line.
+use Prim.Native.Nat.{ℕ, _+_}
+use Rattle.sheet.specs.declared.fault.LineFault.{LineFault}
+use Rattle.sheet.specs.declared.fault.SheetFault.{SheetFault}
+use Rattle.sheet.specs.declared.fault.SheetFault.the-variants.{Missing, TooLong, Line}
+
+-- every fault of a sheet is the refusal 8
+abbrev pub fault-number : SheetFault → ℕ
+fault-number Missing = 8
+fault-number TooLong = 8
+fault-number (Line l) = 8
+
+-- the line at fault, after so many lines: a missing one is the next, any other the last one read
+abbrev pub fault-line : ℕ → SheetFault → ℕ
+fault-line lines Missing = lines + 1
+fault-line lines TooLong = lines
+fault-line lines (Line l) = lines

@@ -1,0 +1,3 @@
+// A reader of run sheets: it goes through a sheet line by line and runs nothing.
+pub mod fault;
+pub mod cursor;
