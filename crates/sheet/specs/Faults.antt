@@ -1,5 +1,7 @@
 -- What a fault answers: its number, and the number of its line.
 use Prim.Native.Nat.{ℕ, _+_}
+use Rattle.std.specs.declared.result.Result.{Result}
+use Rattle.std.specs.declared.result.Result.the-variants.{Ok, Err}
 use Rattle.sheet.specs.declared.fault.LineFault.{LineFault}
 use Rattle.sheet.specs.declared.fault.SheetFault.{SheetFault}
 use Rattle.sheet.specs.declared.fault.SheetFault.the-variants.{Missing, TooLong, Line}
@@ -15,3 +17,8 @@ abbrev pub fault-line : ℕ → SheetFault → ℕ
 fault-line lines Missing = lines + 1
 fault-line lines TooLong = lines
 fault-line lines (Line l) = lines
+
+-- what a reader answers, with the number of the line in the place of its fault
+abbrev pub outcome : {T : Type 0} → ℕ → Result T SheetFault → Result T ℕ
+outcome lines (Ok x) = Ok x
+outcome lines (Err e) = Err (fault-line lines e)

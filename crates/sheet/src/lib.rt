@@ -5,3 +5,4 @@ pub mod kind;
 pub mod token;
 pub mod cursor;
 pub mod readers;
+pub mod opening;

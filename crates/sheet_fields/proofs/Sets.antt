@@ -13,7 +13,9 @@ use Rattle.std.specs.declared.option.Option.{Option}
 use Rattle.std.specs.declared.option.Option.the-variants.{Some, None}
 use Rattle.sheet_fields.specs.Cuts.{has, before, after, pieces}
 use Rattle.sheet_fields.specs.Numbers.{number, between}
-use Rattle.sheet_fields.specs.Parties.{rising}
+use Rattle.sheet_fields.specs.Parties.{member, rising}
+use Rattle.std.proofs.shelf.Tests.{le-leb}
+use lib.Dec.{eqb, leb}
 use Rattle.sheet_fields.proofs.Cutting.{pieces-more, pieces-last}
 
 pub between-bounds : (low high j : ℕ) (o : Option ℕ) → Some j ≡ between low high o → (low ≤ j) × (j ≤ high)
@@ -36,6 +38,11 @@ joins word low p w l =
 
 pub low-bit : (a : ℕ) → bitAnd a 1 ≡ a % 2
 low-bit a = and-mask a 1
+
+pub member-is : (word j : ℕ) → 1 ≤ j → j ≤ 64 → eqb (bitAnd (word / 2 ^ (j - 1)) 1) 1 ≡ member word j
+member-is word j l h =
+    ap (λ n. eqb n 1) (low-bit (word / 2 ^ (j - 1)))
+    ∙ sym (rw (le-leb 1 j l, le-leb j 64 h) refl)
 
 -- reading a list of parties, one step and at its end
 abbrev on : ℕ → List (List ℕ) → Option ℕ → Option ℕ

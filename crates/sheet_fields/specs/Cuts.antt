@@ -37,3 +37,8 @@ pieces stop (b ∷ bs) = cond (eqb b stop) ([] ∷ pieces stop bs) (onto b (piec
 abbrev pub understood : {T E : Type 0} → Result T E → Option T
 understood (Ok x) = Some x
 understood (Err e) = None
+
+-- and what that means
+abbrev pub understood-as : {T E B : Type 0} → (T → B) → Result T E → Option B
+understood-as f (Ok x) = Some (f x)
+understood-as f (Err e) = None

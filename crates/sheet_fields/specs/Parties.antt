@@ -1,8 +1,8 @@
 -- The set of faulty parties as a word of 64 bits: bit j - 1 is party j.
 use Prim.Native.Nat.{ℕ, _+_, _-_, _/_, _%_, _^_}
 use mathlib.Core.List.{List, [], _∷_}
-use mathlib.Core.Bool.{Bool, true, false, cond}
-use lib.Dec.{eqb}
+use mathlib.Core.Bool.{Bool, true, false, cond, _&&_}
+use lib.Dec.{eqb, leb}
 use lib.Chars.{codes}
 use Rattle.std.specs.declared.option.Option.{Option}
 use Rattle.std.specs.declared.option.Option.the-variants.{Some, None}
@@ -10,9 +10,9 @@ use Rattle.values.specs.Same.{equal}
 use Rattle.sheet_fields.specs.Cuts.{pieces}
 use Rattle.sheet_fields.specs.Numbers.{number, between}
 
--- whether party j is in the set
+-- whether party j, from 1 to 64, is in the set
 abbrev pub member : ℕ → ℕ → Bool
-member word j = eqb (word / 2 ^ (j - 1) % 2) 1
+member word j = leb 1 j && (leb j 64 && eqb (word / 2 ^ (j - 1) % 2) 1)
 
 -- the set with the parties that the pieces write, each above `low` and the one before it, at most 64
 abbrev pub rising : ℕ → ℕ → List (List ℕ) → Option ℕ

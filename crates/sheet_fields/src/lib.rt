@@ -4,3 +4,4 @@ pub mod cuts;
 pub mod texts;
 pub mod number;
 pub mod parties;
+pub mod value_text;

@@ -61,8 +61,10 @@ pub fn read_parties(s: &[u8]) -> Result<u64, FieldFault>
 
 // Whether a party from 1 to 64 is in the set.
 pub fn has_party(word: u64, party: u64) -> bool
-    requires { ⌜ 1 ≤ party ⌝ ∗ ⌜ party ≤ 64 ⌝ }
     ensures { λ r. ⌜ r ≡ member word party ⌝ }
 {
+    if party < 1 || party > 64 {
+        return false;
+    }
     (word >> (party - 1)) & 1 == 1
 }

@@ -1,7 +1,6 @@
-use mathlib.Core.Path.{ap}
-use lib.Dec.{eqb}
-use Rattle.sheet_fields.proofs.Sets.{low-bit}
+use native.Mathlib.Omega.{arith}
+use Rattle.sheet_fields.proofs.Sets.{member-is}
 use Rattle.sheet_fields.proofs.parties.has_party.Needs as need
 
 pub returns : need.returns
-returns c = ap (λ n. eqb n 1) (low-bit _)
+returns c = member-is (c .args .word) (c .args .party) (omega arith) (omega arith)
