@@ -7,7 +7,7 @@ use native.Mathlib.Nat.{div-div-eq-div-mul, pow-succ'}
 use lib.ListN.{length, getD, take, drop}
 use Rattle.std.specs.shelf.Digits.{number, Under}
 use Rattle.std.proofs.shelf.Digits.{number-push}
-use Rattle.std.proofs.shelf.Lists.{drop-more, length-append, length-drop, take-more, take-all, length-take-le, nil-from-length}
+use Rattle.std.proofs.shelf.Lists.{drop-more, drop-drop, take-append-drop, length-append, length-drop, take-more, take-all, length-take-le, nil-from-length}
 use Rattle.std.proofs.shelf.Elements.{all-getD, all-take, all-drop}
 use Rattle.values.specs.Bytes.{be}
 
@@ -75,3 +75,11 @@ quotients-push (suc k) n =
 pub be-quotients : (k n : ℕ) → be (suc k) n ≡ quotients k n
 be-quotients zero n = refl
 be-quotients (suc k) n = ap (λ w. w ++ (n % 256 ∷ [])) (be-quotients k (n / 256)) ∙ quotients-push k n
+
+-- numbers with the same bytes are the same
+pub same-from-be : (k m n : ℕ) → m < 256 ^ k → n < 256 ^ k → be k m ≡ be k n → m ≡ n
+same-from-be k m n p q e = sym (number-be k m p) ∙ (ap (number 256) e ∙ number-be k n q)
+
+-- a part, and what follows it
+pub part-rest : (k at : ℕ) (bs : List ℕ) → take k (drop at bs) ++ drop (at + k) bs ≡ drop at bs
+part-rest k at bs = ap (λ w. take k (drop at bs) ++ w) (sym (drop-drop k at bs)) ∙ take-append-drop k (drop at bs)
