@@ -1,5 +1,1 @@
-pub mod Lines
-pub mod Faults
-pub mod Tokens
-pub mod Readings
 pub mod Sheets

@@ -8,10 +8,10 @@ use Rattle.std.specs.declared.option.Option.{Option}
 use Rattle.std.specs.declared.option.Option.the-variants.{Some, None}
 use Rattle.std.specs.declared.result.Result.{Result}
 use Rattle.std.specs.declared.result.Result.the-variants.{Ok, Err}
-use Rattle.sheet.specs.declared.kind.Kind.{Kind}
-use Rattle.sheet.specs.declared.call.Call.{Call}
-use Rattle.sheet.specs.Lines.{lines, line-after}
-use Rattle.sheet.specs.Readings.{number-line, kind-line, parties-line, faults-here, faulty-line, own-line, call-line}
+use Rattle.sheet_lines.specs.declared.kind.Kind.{Kind}
+use Rattle.sheet_lines.specs.declared.call.Call.{Call}
+use Rattle.sheet_lines.specs.Lines.{lines, line-after}
+use Rattle.sheet_lines.specs.Readings.{number-line, kind-line, parties-line, faults-here, faulty-line, own-line, call-line}
 
 -- the lines of faults: how many, which parties, and how many lines were passed after them
 pub record FaultPart : Type 0 where

@@ -1,8 +1,2 @@
-// A reader of run sheets: it goes through a sheet line by line and runs nothing.
-pub mod fault;
-pub mod call;
-pub mod kind;
-pub mod token;
-pub mod cursor;
-pub mod readers;
+// A reader of run sheets: it reads a whole sheet and runs nothing.
 pub mod opening;

@@ -1,7 +1,7 @@
 // A part of a line, with its bytes borrowed from the sheet.
 ghost use mathlib.Core.Path.{_≡_};
 ghost use Rattle.sheet_fields.specs.Cuts.{understood};
-ghost use Rattle.sheet.specs.Tokens.{token-bytes, token-number};
+ghost use Rattle.sheet_lines.specs.Tokens.{token-bytes, token-number};
 use sheet_fields::fault::FieldFault;
 use sheet_fields::number::read_number;
 

@@ -12,7 +12,7 @@ use Rattle.std.proofs.shelf.Tests.{ltb-true}
 use Rattle.std.proofs.shelf.Ways.{tells}
 use Rattle.sheet_fields.specs.Cuts.{has, before, after, onto, pieces}
 use Rattle.sheet_fields.proofs.Cutting.{pieces-more, pieces-last, after-drop, has-is}
-use Rattle.sheet.specs.Lines.{kept, unended, lines-from, lines, line-after}
+use Rattle.sheet_lines.specs.Lines.{kept, unended, lines-from, lines, line-after}
 
 -- there is always a piece
 pub pieces-some : (stop : ℕ) (bs : List ℕ) → 0 < length (pieces stop bs)

@@ -6,9 +6,9 @@ use Prim.Native.Nat.{_+_, _-_, _≤_, _<_}
 use lib.ListN.{length, take, drop}
 use Rattle.std.proofs.shelf.Lists.{getD-past, take-rest}
 use Rattle.sheet_fields.specs.Cuts.{before}
-use Rattle.sheet.specs.Lines.{kept}
-use Rattle.sheet.proofs.Walk.{Along, none-left, next-line, last-line, line-within, kept-not, kept-long, kept-whole}
-use Rattle.sheet.proofs.cursor.Cursor.line.Needs as need
+use Rattle.sheet_lines.specs.Lines.{kept}
+use Rattle.sheet_lines.proofs.Walk.{Along, none-left, next-line, last-line, line-within, kept-not, kept-long, kept-whole}
+use Rattle.sheet_lines.proofs.cursor.Cursor.line.Needs as need
 
 pub returns-then-self : need.returns-then-self
 returns-then-self c =

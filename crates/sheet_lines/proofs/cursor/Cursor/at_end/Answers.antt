@@ -1,5 +1,5 @@
-use Rattle.sheet.proofs.Walk.{ends-alike, some-left}
-use Rattle.sheet.proofs.cursor.Cursor.at_end.Needs as need
+use Rattle.sheet_lines.proofs.Walk.{ends-alike, some-left}
+use Rattle.sheet_lines.proofs.cursor.Cursor.at_end.Needs as need
 
 pub returns : need.returns
 returns c =

@@ -9,10 +9,10 @@ use Rattle.values.specs.Same.{equal}
 use Rattle.sheet_fields.specs.Cuts.{has, before, after}
 use Rattle.sheet_fields.specs.Numbers.{number, between}
 use Rattle.sheet_fields.specs.Parties.{member, party-set}
-use Rattle.sheet.specs.declared.kind.Kind.{Kind}
-use Rattle.sheet.specs.declared.kind.Kind.the-variants.{Blocks, Orders}
-use Rattle.sheet.specs.declared.call.Call.{Call}
-use Rattle.sheet.specs.declared.call.Call.the-variants.{Hand, Repeat, Lose, Timer}
+use Rattle.sheet_lines.specs.declared.kind.Kind.{Kind}
+use Rattle.sheet_lines.specs.declared.kind.Kind.the-variants.{Blocks, Orders}
+use Rattle.sheet_lines.specs.declared.call.Call.{Call}
+use Rattle.sheet_lines.specs.declared.call.Call.the-variants.{Hand, Repeat, Lose, Timer}
 
 -- one reading after another
 abbrev pub then : {A B : Type 0} → Option A → (A → Option B) → Option B

@@ -7,8 +7,8 @@ use Rattle.std.specs.declared.option.Option.the-variants.{Some, None}
 use Rattle.std.specs.declared.result.Result.{Result}
 use Rattle.std.specs.declared.result.Result.the-variants.{Ok, Err}
 use Rattle.sheet_fields.specs.Numbers.{number}
-use Rattle.sheet.specs.declared.token.Token.{Token}
-use Rattle.sheet.specs.declared.token.Token.the-variants.{Name, Number, Value}
+use Rattle.sheet_lines.specs.declared.token.Token.{Token}
+use Rattle.sheet_lines.specs.declared.token.Token.the-variants.{Name, Number, Value}
 
 abbrev pub token-bytes : Token → List ℕ
 token-bytes (Name s) = now s

@@ -2,9 +2,9 @@
 use Prim.Native.Nat.{ℕ, _+_}
 use Rattle.std.specs.declared.result.Result.{Result}
 use Rattle.std.specs.declared.result.Result.the-variants.{Ok, Err}
-use Rattle.sheet.specs.declared.fault.LineFault.{LineFault}
-use Rattle.sheet.specs.declared.fault.SheetFault.{SheetFault}
-use Rattle.sheet.specs.declared.fault.SheetFault.the-variants.{Missing, TooLong, Line}
+use Rattle.sheet_lines.specs.declared.fault.LineFault.{LineFault}
+use Rattle.sheet_lines.specs.declared.fault.SheetFault.{SheetFault}
+use Rattle.sheet_lines.specs.declared.fault.SheetFault.the-variants.{Missing, TooLong, Line}
 
 -- every fault of a sheet is the refusal 8
 abbrev pub fault-number : SheetFault → ℕ

@@ -1,7 +1,7 @@
 // What can be wrong with a line and with a sheet; a fault below is kept inside the one above.
 ghost use mathlib.Core.Path.{_≡_};
-ghost use Rattle.sheet.specs.declared.fault.LineFault.the-variants.{Field};
-ghost use Rattle.sheet.specs.declared.fault.SheetFault.the-variants.{Line};
+ghost use Rattle.sheet_lines.specs.declared.fault.LineFault.the-variants.{Field};
+ghost use Rattle.sheet_lines.specs.declared.fault.SheetFault.the-variants.{Line};
 use sheet_fields::fault::FieldFault;
 use sheet_fields::fault::FieldFaultDebug;
 use sheet_fields::fault::FieldFaultEq;
