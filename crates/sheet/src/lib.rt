@@ -1,2 +1,3 @@
 // A reader of run sheets: it reads a whole sheet and runs nothing.
 pub mod opening;
+pub mod owns;

@@ -42,3 +42,8 @@ understood (Err e) = None
 abbrev pub understood-as : {T E B : Type 0} → (T → B) → Result T E → Option B
 understood-as f (Ok x) = Some (f x)
 understood-as f (Err e) = None
+
+-- one reading after another
+abbrev pub then : {A B : Type 0} → Option A → (A → Option B) → Option B
+then None f = None
+then (Some x) f = f x

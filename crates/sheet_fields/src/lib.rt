@@ -5,3 +5,5 @@ pub mod texts;
 pub mod number;
 pub mod parties;
 pub mod value_text;
+pub mod block_text;
+pub mod order_text;

@@ -22,3 +22,8 @@ fault-line lines (Line l) = lines
 abbrev pub outcome : {T : Type 0} → ℕ → Result T SheetFault → Result T ℕ
 outcome lines (Ok x) = Ok x
 outcome lines (Err e) = Err (fault-line lines e)
+
+-- and what that means
+abbrev pub outcome-as : {T B : Type 0} → (T → B) → ℕ → Result T SheetFault → Result B ℕ
+outcome-as f lines (Ok x) = Ok (f x)
+outcome-as f lines (Err e) = Err (fault-line lines e)

@@ -6,18 +6,13 @@ use lib.Chars.{codes}
 use Rattle.std.specs.declared.option.Option.{Option}
 use Rattle.std.specs.declared.option.Option.the-variants.{Some, None}
 use Rattle.values.specs.Same.{equal}
-use Rattle.sheet_fields.specs.Cuts.{has, before, after}
+use Rattle.sheet_fields.specs.Cuts.{has, before, after, then}
 use Rattle.sheet_fields.specs.Numbers.{number, between}
 use Rattle.sheet_fields.specs.Parties.{member, party-set}
 use Rattle.sheet_lines.specs.declared.kind.Kind.{Kind}
 use Rattle.sheet_lines.specs.declared.kind.Kind.the-variants.{Blocks, Orders}
 use Rattle.sheet_lines.specs.declared.call.Call.{Call}
 use Rattle.sheet_lines.specs.declared.call.Call.the-variants.{Hand, Repeat, Lose, Timer}
-
--- one reading after another
-abbrev pub then : {A B : Type 0} → Option A → (A → Option B) → Option B
-then None f = None
-then (Some x) f = f x
 
 -- the part after `name=`, where the line has this name
 abbrev pub field : List ℕ → List ℕ → Option (List ℕ)
