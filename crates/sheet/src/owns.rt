@@ -52,3 +52,18 @@ fn take_own<V: SheetValue>(cursor: &mut Cursor, faulty: u64, party: u64) -> Resu
     let line = cursor.line()?;
     Ok(read_own(line, faulty, party)?)
 }
+
+// Reads the own values of parties 1 to `parties`, at most 8; the places after them stay blank.
+pub fn take_owns<V: SheetValue>(cursor: &mut Cursor, faulty: u64, parties: u64) -> Result<[V; 8], SheetFault>
+    requires { ⌜ parties ≤ 8 ⌝ }
+    ensures same { λ _. ⌜ now (now (cursor .exit) .sheet) ≡ now (now (cursor .entry) .sheet) ⌝ }
+    ensures passed { λ r. ⌜ made r (λ _. now (cursor .exit) .passed ≡ now (cursor .entry) .passed + parties) ⌝ }
+    ensures rest { λ r. ⌜ made r (λ own. drop parties (map (V·Value .bytes) own) ≡ replicate (8 - parties) (replicate (V·Value .width) 0)) ⌝ }
+    ensures value { λ r. ⌜ outcome-as (λ own. take parties (map (V·Value .bytes) own)) (now (cursor .exit) .passed) r ≡ own-values (V·SheetValue .reads) (replicate (V·Value .width) 0) (lines (now (now (cursor .entry) .sheet))) faulty (now (cursor .entry) .passed) parties ⌝ }
+{
+    let mut own = [V::blank(); 8];
+    for i in 0..parties as usize {
+        own[i] = take_own(cursor, faulty, i as u64 + 1)?;
+    }
+    Ok(own)
+}
