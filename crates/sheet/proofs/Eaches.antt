@@ -11,10 +11,11 @@ use Rattle.std.specs.declared.option.Option.the-variants.{Some, None}
 use Rattle.std.specs.declared.result.Result.{Result}
 use Rattle.std.specs.declared.result.Result.the-variants.{Ok, Err}
 use Rattle.std.proofs.shelf.Tests.{cases-lt}
-use Rattle.std.proofs.shelf.Lists.{take-more-set, map-set, length-map, drop-set-lt, drop-more}
+use Rattle.std.proofs.shelf.Lists.{take-more-set, map-set, length-map, drop-set-lt, drop-more, length-push}
 use Rattle.sheet_lines.specs.Lines.{lines, line-after}
 use Rattle.sheet_lines.specs.Readings.{own-line, call-line}
-use Rattle.sheet.specs.Sheets.{one-more, each, line-gives, own-values, call-list}
+use Rattle.sheet.specs.Sheets.{one-more, each, line-gives, own-values, call-list, sized}
+use Rattle.sheet_lines.specs.declared.call.Call.{Call}
 
 more-gives : {A : Type 0} (r : Result (List A) ℕ) (o : Option A) (k : ℕ) (xs : List A) (x : A) → r ≡ Ok xs → line-gives k o ≡ Ok x → one-more r k o ≡ Ok (xs ++ x ∷ [])
 more-gives (Ok ys) (Some y) k xs x e h = cc
@@ -76,3 +77,35 @@ pub own-stops : (reads : List ℕ → Option (List ℕ)) (blank s t : List ℕ) 
 own-stops reads blank s t faulty from p i n m xs e f l h g =
     let read : ℕ → Option (List ℕ) = λ j. own-line reads blank faulty (j + 1) (line-after (lines t) (from + j)) in
     sym (each-stuck read from (i + 1) m n (omega arith) (each-stops read from i m xs h (sym (g ∙ own-place reads blank s t faulty from p i e f))))
+
+sized-some : {A : Type 0} (r : Result (List A) ℕ) (n : ℕ) → sized r ≡ Ok n → (xs : List A) × (r ≡ Ok xs) × (length xs ≡ n)
+sized-some (Ok xs) n e = (xs, refl, cc)
+sized-some (Err m) n e = let z : _≡_ {A = ℕ} 0 1 = cc in absurd (omega arith)
+
+call-place : (s t : List ℕ) (from p i : ℕ) → s ≡ t → p ≡ from + i → line-gives (p + 1) (call-line (line-after (lines s) p)) ≡ line-gives (from + i + 1) (call-line (line-after (lines t) (from + i)))
+call-place s t from p i e f =
+    ap (λ u. line-gives (p + 1) (call-line (line-after (lines u) p))) e
+    ∙ ap (λ q. line-gives (q + 1) (call-line (line-after (lines t) q))) f
+
+-- what the first lines of calls give
+abbrev pub some-calls : List ℕ → ℕ → ℕ → Result (List Call) ℕ
+some-calls t from i = each (λ j. call-line (line-after (lines t) (from + j))) from i
+
+pub call-more : (s t : List ℕ) (from p i : ℕ) (xs : List Call) (x : Call) → s ≡ t → p ≡ from + i → some-calls t from i ≡ Ok xs → Ok x ≡ line-gives (p + 1) (call-line (line-after (lines s) p)) → some-calls t from (i + 1) ≡ Ok (xs ++ x ∷ [])
+call-more s t from p i xs x e f h g =
+    each-more (λ j. call-line (line-after (lines t) (from + j))) from i xs x h (sym (g ∙ call-place s t from p i e f))
+
+pub call-stops : (s t : List ℕ) (from p i n m : ℕ) (xs : List Call) → s ≡ t → p ≡ from + i → i < n → some-calls t from i ≡ Ok xs → Err m ≡ line-gives (p + 1) (call-line (line-after (lines s) p)) → some-calls t from n ≡ Err m
+call-stops s t from p i n m xs e f l h g =
+    let read : ℕ → Option Call = λ j. call-line (line-after (lines t) (from + j)) in
+    each-stuck read from (i + 1) m n (omega arith) (each-stops read from i m xs h (sym (g ∙ call-place s t from p i e f)))
+
+pub size-more : (s t : List ℕ) (from p i : ℕ) (x : Call) → s ≡ t → p ≡ from + i → sized (some-calls t from i) ≡ Ok i → Ok x ≡ line-gives (p + 1) (call-line (line-after (lines s) p)) → sized (some-calls t from (i + 1)) ≡ Ok (i + 1)
+size-more s t from p i x e f h g =
+    let k = sized-some (some-calls t from i) i h in
+    ap sized (call-more s t from p i (k .0) x e f (k .1) g) ∙ ap Ok (length-push (k .0) x ∙ ap (λ n. n + 1) (k .2))
+
+pub size-stops : (s t : List ℕ) (from p i n m : ℕ) → s ≡ t → p ≡ from + i → i < n → sized (some-calls t from i) ≡ Ok i → Err m ≡ line-gives (p + 1) (call-line (line-after (lines s) p)) → Err m ≡ sized (some-calls t from n)
+size-stops s t from p i n m e f l h g =
+    let k = sized-some (some-calls t from i) i h in
+    sym (ap sized (call-stops s t from p i n m (k .0) e f l (k .1) g))

@@ -62,3 +62,8 @@ own-values reads blank ls faulty from n = each (λ j. own-line reads blank fault
 -- the calls, in all lines that are left
 abbrev pub call-list : List (List ℕ) → ℕ → Result (List Call) ℕ
 call-list ls from = each (λ j. call-line (line-after ls (from + j))) from (length ls - from)
+
+-- how many there are
+abbrev pub sized : {A : Type 0} → Result (List A) ℕ → Result ℕ ℕ
+sized (Ok xs) = Ok (length xs)
+sized (Err m) = Err m

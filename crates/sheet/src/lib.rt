@@ -1,3 +1,4 @@
 // A reader of run sheets: it reads a whole sheet and runs nothing.
 pub mod opening;
 pub mod owns;
+pub mod calls;
