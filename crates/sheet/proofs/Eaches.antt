@@ -11,10 +11,10 @@ use Rattle.std.specs.declared.option.Option.the-variants.{Some, None}
 use Rattle.std.specs.declared.result.Result.{Result}
 use Rattle.std.specs.declared.result.Result.the-variants.{Ok, Err}
 use Rattle.std.proofs.shelf.Tests.{cases-lt}
-use Rattle.std.proofs.shelf.Lists.{take-more-set, map-set, length-map, drop-set-lt, drop-more, length-push}
+use Rattle.std.proofs.shelf.Lists.{take-more-set, map-set, length-map, drop-set-lt, drop-more, length-push, take-append-drop}
 use Rattle.sheet_lines.specs.Lines.{lines, line-after}
 use Rattle.sheet_lines.specs.Readings.{own-line, call-line}
-use Rattle.sheet.specs.Sheets.{one-more, each, line-gives, own-values, call-list, sized}
+use Rattle.sheet.specs.Sheets.{one-more, each, line-gives, own-values, call-list, sized, next}
 use Rattle.sheet_lines.specs.declared.call.Call.{Call}
 
 more-gives : {A : Type 0} (r : Result (List A) ℕ) (o : Option A) (k : ℕ) (xs : List A) (x : A) → r ≡ Ok xs → line-gives k o ≡ Ok x → one-more r k o ≡ Ok (xs ++ x ∷ [])
@@ -109,3 +109,9 @@ pub size-stops : (s t : List ℕ) (from p i n m : ℕ) → s ≡ t → p ≡ fro
 size-stops s t from p i n m e f l h g =
     let k = sized-some (some-calls t from i) i h in
     sym (ap sized (call-stops s t from p i n m (k .0) e f l (k .1) g))
+
+-- a table from its front and its blanks
+pub table-is : (m : List (List ℕ)) (n : ℕ) (b : List ℕ) (r : Result (List (List ℕ)) ℕ) → Ok (take n m) ≡ r → drop n m ≡ replicate (8 - n) b → Ok m ≡ next r (λ vs. Ok (vs ++ replicate (8 - n) b))
+table-is m n b r e d =
+    ap Ok (sym (take-append-drop n m) ∙ ap (λ t. take n m ++ t) d)
+    ∙ ap (λ q. next q (λ vs. Ok (vs ++ replicate (8 - n) b))) e

@@ -8,7 +8,9 @@ use Rattle.std.specs.declared.option.Option.{Option}
 use Rattle.std.specs.declared.option.Option.the-variants.{Some, None}
 use Rattle.std.specs.declared.result.Result.{Result}
 use Rattle.std.specs.declared.result.Result.the-variants.{Ok, Err}
+use Rattle.sheet_fields.specs.Texts.{block-text, order-text}
 use Rattle.sheet_lines.specs.declared.kind.Kind.{Kind}
+use Rattle.sheet_lines.specs.declared.kind.Kind.the-variants.{Blocks, Orders}
 use Rattle.sheet_lines.specs.declared.call.Call.{Call}
 use Rattle.sheet_lines.specs.Lines.{lines, line-after}
 use Rattle.sheet_lines.specs.Readings.{number-line, kind-line, parties-line, faults-here, faulty-line, own-line, call-line}
@@ -67,3 +69,59 @@ call-list ls from = each (λ j. call-line (line-after ls (from + j))) from (leng
 abbrev pub sized : {A : Type 0} → Result (List A) ℕ → Result ℕ ℕ
 sized (Ok xs) = Ok (length xs)
 sized (Err m) = Err m
+
+-- the own values of a kind's table of 8 places, blank after the last party
+abbrev pub own-list : (List ℕ → Option (List ℕ)) → List ℕ → List (List ℕ) → ℕ → ℕ → ℕ → Result (List (List ℕ)) ℕ
+own-list reads blank ls faulty from n =
+    next (own-values reads blank ls faulty from n) (λ vs. Ok (vs ++ replicate (8 - n) blank))
+
+-- the texts of a kind, and its blank
+abbrev pub kind-reads : Kind → List ℕ → Option (List ℕ)
+kind-reads Blocks bs = block-text bs
+kind-reads Orders bs = order-text bs
+
+abbrev pub kind-blank : Kind → List ℕ
+kind-blank Blocks = replicate 14 0
+kind-blank Orders = replicate 3 0
+
+-- what a ring is set up with, and how many lines say so
+pub record Setting : Type 0 where
+  pub kind : Kind
+  pub parties : ℕ
+  pub faults : ℕ
+  pub faulty : ℕ
+  pub own : List (List ℕ)
+  pub count : ℕ
+
+abbrev pub set-with : Kind → ℕ → ℕ → ℕ → List (List ℕ) → ℕ → Setting
+set-with k n f w vs count = record { kind = k; parties = n; faults = f; faulty = w; own = vs; count = count }
+
+-- kind, parties, faults, faulty, then one own line for each party
+abbrev pub setting-part : List (List ℕ) → Result Setting ℕ
+setting-part ls =
+    next (line-gives 1 (kind-line (line-after ls 0))) (λ k.
+    next (line-gives 2 (parties-line (line-after ls 1))) (λ n.
+    next (fault-lines ls n) (λ f.
+    next (own-list (kind-reads k) (kind-blank k) ls (f .faulty) (f .passed) n) (λ vs.
+    Ok (set-with k n (f .faults) (f .faulty) vs (f .passed + n))))))
+
+-- what a readable sheet means
+pub record Meaning : Type 0 where
+  pub setting : Setting
+  pub calls : List Call
+
+abbrev pub meant : Setting → List Call → Meaning
+meant s cs = record { setting = s; calls = cs }
+
+-- the meaning of a sheet's bytes, or the number of its first line that is unreadable or missing
+abbrev pub sheet-means : List ℕ → Result Meaning ℕ
+sheet-means bs =
+    next (setting-part (lines bs)) (λ s.
+    next (call-list (lines bs) (s .count)) (λ cs. Ok (meant s cs)))
+
+-- the two parts of a meaning
+abbrev pub setting-of : Result Meaning ℕ → Result Setting ℕ
+setting-of r = next r (λ m. Ok (m .setting))
+
+abbrev pub calls-of : Result Meaning ℕ → Result (List Call) ℕ
+calls-of r = next r (λ m. Ok (m .calls))

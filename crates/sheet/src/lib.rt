@@ -2,3 +2,5 @@
 pub mod opening;
 pub mod owns;
 pub mod calls;
+pub mod setup;
+pub mod plan;
