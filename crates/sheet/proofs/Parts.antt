@@ -7,6 +7,7 @@ use Rattle.std.specs.declared.option.Option.{Option}
 use Rattle.std.specs.declared.option.Option.the-variants.{Some, None}
 use Rattle.std.specs.declared.result.Result.{Result}
 use Rattle.std.specs.declared.result.Result.the-variants.{Ok, Err}
+use lib.Chars.{codes}
 use Rattle.std.proofs.shelf.Ways.{tells}
 use Rattle.sheet_fields.specs.Numbers.{between}
 use Rattle.sheet_lines.specs.declared.kind.Kind.{Kind}
@@ -29,7 +30,7 @@ between-most high n (Some m) k e = grind (arith, tells)
 
 -- at most 8 parties
 pub count-small : (l : List ℕ) (n k : ℕ) → line-gives k (parties-line l) ≡ Ok n → n ≤ 8
-count-small l n k e = between-most 8 n _ k e
+count-small l n k e = between-most 8 n (number-line (codes "parties") l) k e
 
 module _ (ls : List (List ℕ)) where
   pub stop-kind : (m : ℕ) → line-gives 1 (kind-line (line-after ls 0)) ≡ Err m → setting-part ls ≡ Err m
@@ -46,3 +47,10 @@ module _ (ls : List (List ℕ)) where
 
   pub whole-part : (k : Kind) (n : ℕ) (p : FaultPart) (vs : List (List ℕ)) → line-gives 1 (kind-line (line-after ls 0)) ≡ Ok k → line-gives 2 (parties-line (line-after ls 1)) ≡ Ok n → fault-lines ls n ≡ Ok p → own-list (kind-reads k) (kind-blank k) ls (p .faulty) (p .passed) n ≡ Ok vs → setting-part ls ≡ Ok (set-with k n (p .faults) (p .faulty) vs (p .passed + n))
   whole-part k n p vs e f g h = rw (e, f, g, h) refl
+
+pub set-same : (k : Kind) (n m f g w v c d : ℕ) (vs : List (List ℕ)) → m ≡ n → g ≡ f → v ≡ w → d ≡ c → set-with k n f w vs c ≡ set-with k m g v vs d
+set-same k n m f g w v c d vs a b e h =
+    ap (λ x. set-with k x f w vs c) (sym a)
+    ∙ (ap (λ x. set-with k m x w vs c) (sym b)
+    ∙ (ap (λ x. set-with k m g x vs c) (sym e)
+    ∙ ap (λ x. set-with k m g v vs x) (sym h)))

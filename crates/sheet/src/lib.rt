@@ -4,3 +4,5 @@ pub mod owns;
 pub mod calls;
 pub mod setup;
 pub mod plan;
+pub mod fault;
+pub mod reader;
