@@ -1,8 +1,8 @@
 // A reader of run sheets: it reads a whole sheet and runs nothing.
-pub mod opening;
-pub mod owns;
-pub mod calls;
-pub mod setup;
-pub mod plan;
+mod calls;
 pub mod fault;
+mod opening;
+mod owns;
+mod plan;
 pub mod reader;
+pub mod setup;

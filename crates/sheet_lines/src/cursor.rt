@@ -43,14 +43,15 @@ impl<'a> Cursor<'a> {
     pub fn passed_lines(&self) -> usize
         ensures { λ r. ⌜ r ≡ now (self .entry) .passed ⌝ }
     {
-        self.passed
+        let lines = self.passed;
+        lines
     }
 
     // Whether no line is left.
     pub fn at_end(&self) -> bool
         ensures { λ r. ⌜ r ≡ leb (length (lines (now (now (self .entry) .sheet)))) (now (self .entry) .passed) ⌝ }
     {
-        self.at >= self.sheet.len()
+        self.sheet.len() <= self.at
     }
 
     // Passes the next line and answers it.
