@@ -1,0 +1,2 @@
+pub mod Eaches
+pub mod Parts

@@ -1,0 +1,4 @@
+pub mod Sheets
+pub mod Stops
+pub mod Plans
+pub mod Answers
