@@ -3,6 +3,7 @@
 mod frames_walk;
 mod refusals;
 mod samples;
+mod sheets_walk;
 mod wires_walk;
 
 use crate::frames_walk::walk_frames;
@@ -13,6 +14,7 @@ use crate::refusals::show_refusals;
 use crate::samples::block_messages;
 use crate::samples::order_messages;
 use crate::samples::request;
+use crate::sheets_walk::walk_sheets;
 use crate::wires_walk::walk_wire;
 use frame_wire::buffer::FrameWire;
 use frame_wire::buffer::FramesAsWire;
@@ -62,7 +64,9 @@ fn walk(rt: &LibcRuntime) -> Result<(), AnyError> {
     let mut order_table = [request::<Order>(1, 1, 1); 2];
     walk_both_wires(rt, &mut order_table, &orders)?;
     println!(rt, "== refusals")?;
-    show_refusals(rt)
+    show_refusals(rt)?;
+    println!(rt, "== run sheets")?;
+    walk_sheets(rt)
 }
 
 fn main(rt: LibcRuntime) -> Result<(), AnyError> {
