@@ -7,7 +7,7 @@ use lib.Dec.{eqb}
 use lib.ListN.{length}
 use Rattle.std.specs.shelf.Lists.{All}
 use Rattle.messages.specs.Messages.{Msg, in-range}
-use Rattle.rules.specs.Party.{Row}
+use Rattle.rules.specs.Party.{Row, Party, Step}
 use Rattle.posting.specs.declared.audience.Audience.{Audience}
 use Rattle.posting.specs.declared.audience.Audience.the-variants.{All as Everyone, Joined}
 
@@ -34,3 +34,8 @@ addressed m to =
 abbrev pub goes : Audience → Row → Bool
 goes Everyone r = true
 goes (Joined view) r = eqb (r .request) view
+
+-- what a step leaves, of the party and of the wire
+pub record Does (s : Step) (p : Party) (before after : List Msg) (capacity capacity′ number : ℕ) : Type 0 where
+  pub party : p ≡ s .after
+  pub posts : Posted before after capacity capacity′ number (s .posts)
