@@ -1,1 +1,4 @@
 pub mod votes;
+pub mod dones;
+pub mod entry;
+pub mod aborts;
