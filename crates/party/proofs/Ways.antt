@@ -3,7 +3,7 @@ use mathlib.Core.Path.{_≡_, refl, sym, ap, _∙_}
 use mathlib.Core.Bool.{Bool, true, false, cond, _&&_}
 use mathlib.Core.List.{List, [], _∷_, _++_}
 use lib.Dec.{eqb, ltb, leb}
-use borrow.Author.Tests.{lt-ltb, le-ltb, le-leb, lt-leb, leb-true}
+use borrow.Author.Tests.{lt-ltb, le-ltb, le-leb, lt-leb, leb-true, eq-eqb, ne-eqb}
 use native.Mathlib.Omega.{arith}
 use Rattle.std.specs.shelf.Lists.{All}
 use Prim.Native.Nat.{ℕ, zero, suc, _+_, _≤_, _<_, max}
@@ -11,11 +11,11 @@ use native.Mathlib.Numerals.{add-one}
 use Rattle.messages.specs.Messages.{Msg, in-range, last-view, is-party, between}
 use Rattle.posting.specs.Posting.{Takes}
 use Rattle.posting.proofs.Lists.{all-left, all-right}
-use Rattle.rules.specs.Party.{Record, Row, Setting, Party, Step, still, and-then, none, with-rec, with-decision, cleared, with-row, with-abort}
+use Rattle.rules.specs.Party.{Record, Row, Setting, Party, Step, still, and-then, none, with-rec, with-decision, cleared, with-row, with-abort, with-request}
 use Rattle.rules.specs.Thresholds.{primary, vouched, reached}
-use Rattle.rules.specs.Posts.{view-msg, suggest-msg, proof-msg, to-each, to-all, to-joined}
+use Rattle.rules.specs.Posts.{view-msg, suggest-msg, proof-msg, to-each, to-all, to-joined, made-offer, made-echo, made-vote, made, suggest-to}
 use Rattle.rules.specs.Tests.{voted, done-agreed}
-use Rattle.rules.specs.Step.{told-vote, announce-due, announce, on-vote, say-done, on-lock, told-done, join-done, decide, on-done, entered, enter, aborts, say-abort, join-abort, leave, on-abort, on-timer}
+use Rattle.rules.specs.Step.{told-vote, announce-due, announce, on-vote, say-done, on-lock, told-done, join-done, decide, on-done, entered, enter, aborts, say-abort, join-abort, leave, on-abort, on-timer, on-request}
 use Rattle.party.specs.Timer.{timed-out}
 
 -- a test that is passed, or not, decides
@@ -149,3 +149,23 @@ view-bound g me p {valid} {width} {capacity} {old} v h t =
     let P : Msg → Type 0 = λ m. in-range valid width m ≡ true in
     let r : in-range valid width (view-msg g me 1 v (g .n)) ≡ true = last-one P (view-msg g me 1 v) (g .n) h (all-left P (to-all g me (view-msg g me 1 v)) _ (t .ranged)) in
     leb-true v last-view (later-part (leb 1 v) (leb v last-view) (first-part (between 1 last-view v) _ (later-part (is-party (g .n)) _ (later-part (is-party me) _ r))))
+
+-- ## A request
+pub made-as : (g : Setting) (me : ℕ) (r : Record) (to : ℕ) → made g me r to ≡
+  (proof-msg g me (r .view) (r .proof) to ∷ []) ++ (made-offer g me (r .view) (r .offer) to ++ (made-echo g me (r .view) (r .proposal) to ++
+  (made-vote g me 6 r to ++ (made-vote g me 7 r to ++ (made-vote g me 8 r to ++ made-vote g me 9 r to)))))
+unfolding made
+made-as g me r to = refl
+
+module _ (g : Setting) (me : ℕ) (p : Party) (m : Msg) where
+  abbrev after-request : Bool → Party → Step
+  after-request b q = record { after = q; posts = cond b (suggest-to g me (p .rec) (m .from) ++ made g me (p .rec) (m .from)) [] }
+
+  pub request-answered : (q : Party) → q ≡ with-row p (m .from) (with-request (p .rows (m .from)) (m .view)) → m .view ≡ p .rec .view →
+    on-request g me p m ≡ record { after = q; posts = suggest-to g me (p .rec) (m .from) ++ made g me (p .rec) (m .from) }
+  unfolding on-request
+  request-answered q e h = ap (after-request (eqb (m .view) (p .rec .view))) (sym e) ∙ ap (λ b. after-request b q) (eq-eqb (m .view) (p .rec .view) h)
+
+  pub request-noted : (q : Party) → q ≡ with-row p (m .from) (with-request (p .rows (m .from)) (m .view)) → (m .view ≡ p .rec .view → ⊥) → on-request g me p m ≡ still q
+  unfolding on-request
+  request-noted q e h = ap (after-request (eqb (m .view) (p .rec .view))) (sym e) ∙ ap (λ b. after-request b q) (ne-eqb (m .view) (p .rec .view) h)

@@ -2,3 +2,4 @@ pub mod votes;
 pub mod dones;
 pub mod entry;
 pub mod aborts;
+pub mod requests;

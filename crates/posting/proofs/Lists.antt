@@ -148,3 +148,21 @@ posted-if {old} {new} {k} {k′} {r} b x y h e q =
 
 pub posted-if-not : {old : List Msg} {k : ℕ} (b : Bool) (x : Msg) → b ≡ false → Posted old old k k 0 (cond b (x ∷ []) [])
 posted-if-not {old} {k} b x h = subst (λ c. Posted old old k k 0 (cond c (x ∷ []) [])) (sym h) (posted-none old old k k 0 refl refl refl)
+
+-- the same list by another name
+pub takes-list : {valid : List ℕ → Bool} {width capacity : ℕ} {old : List Msg} (xs ys : List Msg) → xs ≡ ys → Takes valid width capacity old xs → Takes valid width capacity old ys
+takes-list {valid} {width} {capacity} {old} xs ys e = subst (Takes valid width capacity old) e
+
+pub posted-list : {old new : List Msg} {k k′ r : ℕ} (xs ys : List Msg) → xs ≡ ys → Posted old new k k′ r xs → Posted old new k k′ r ys
+posted-list {old} {new} {k} {k′} {r} xs ys e = subst (Posted old new k k′ r) e
+
+-- posts in four parts
+pub posted-four : (a b c d e : List Msg) (k k1 k2 k3 k4 r s t u : ℕ) (xs ys zs us : List Msg) → Posted a b k k1 r xs → Posted b c k1 k2 s ys → Posted c d k2 k3 t zs → Posted d e k3 k4 u us →
+  Posted a e k k4 (((r + s) + t) + u) (xs ++ (ys ++ (zs ++ us)))
+posted-four a b c d e k k1 k2 k3 k4 r s t u xs ys zs us p q o n =
+    let z = posted-both a b e k k1 k4 r ((s + t) + u) xs (ys ++ (zs ++ us)) p (posted-three b c d e k1 k2 k3 k4 s t u ys zs us q o n) in
+    record { list = z .list; answer = omega (arith, z .answer); kept = z .kept }
+
+pub four-fit : {valid : List ℕ → Bool} {width capacity : ℕ} {old : List Msg} (xs ys zs us : List Msg) (r s q u : ℕ) → Takes valid width capacity old (xs ++ (ys ++ (zs ++ us))) →
+  r ≡ length xs → s ≡ length ys → q ≡ length zs → u ≡ length us → ((r + s) + q) + u < 2 ^ 64
+four-fit xs ys zs us r s q u t e f h i = omega (arith, t .few, length-append xs (ys ++ (zs ++ us)), length-append ys (zs ++ us), length-append zs us)
