@@ -3,3 +3,4 @@ pub mod dones;
 pub mod entry;
 pub mod aborts;
 pub mod requests;
+pub mod proposals;
