@@ -1,0 +1,4 @@
+pub mod Ways
+pub mod Settled
+pub mod ByKind
+pub mod Within
