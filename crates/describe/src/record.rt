@@ -35,6 +35,17 @@ fn proposal_name<V>(proposal: &Proposal<V>) -> &'static str {
     }
 }
 
+// Whether a proposal is in another state than before.
+fn moved_on<V>(old: &Proposal<V>, new: &Proposal<V>) -> bool {
+    match (old, new) {
+        (Proposal::Nothing, Proposal::Nothing) => false,
+        (Proposal::Waiting(_), Proposal::Waiting(_)) => false,
+        (Proposal::Echoed(_), Proposal::Echoed(_)) => false,
+        (Proposal::Dropped, Proposal::Dropped) => false,
+        _ => true,
+    }
+}
+
 // Each part of the record that is another than before.
 pub fn print_change<V: Readable>(rt: &LibcRuntime, old: &Record<V>, new: &Record<V>) -> Result<(), AnyError> {
     if old.view != new.view {
@@ -45,10 +56,9 @@ pub fn print_change<V: Readable>(rt: &LibcRuntime, old: &Record<V>, new: &Record
     print_key(rt, "key2", &old.key2, &new.key2)?;
     print_key(rt, "key3", &old.key3, &new.key3)?;
     print_key(rt, "lock", &old.lock, &new.lock)?;
-    let before = proposal_name(&old.proposal);
-    let after = proposal_name(&new.proposal);
-    if before != after {
-        println!(rt, "    the proposal is now {after}")?;
+    if moved_on(&old.proposal, &new.proposal) {
+        let state = proposal_name(&new.proposal);
+        println!(rt, "    the proposal is now {state}")?;
     }
     print_new(rt, "has sent done for", &old.done, &new.done)?;
     print_new(rt, "has decided", &old.decision, &new.decision)
