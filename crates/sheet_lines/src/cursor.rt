@@ -13,6 +13,12 @@ use crate::fault::LineFault;
 use crate::fault::SheetFault;
 use sheet_fields::cuts::cut;
 
+// The most bytes of a sheet, newlines counted.
+const MOST_BYTES: usize = 60_000;
+
+// The most bytes of a line, its newline not counted.
+const MOST_IN_LINE: usize = 120;
+
 // A line of a sheet: its number, from 1, and its bytes without the newline.
 #[derive(Clone, Copy)]
 pub struct Line<'a> {
@@ -72,10 +78,10 @@ impl<'a> Cursor<'a> {
                 let text = halves.front;
                 self.at += text.len() + 1;
                 self.passed += 1;
-                if self.at > 60_000 {
+                if self.at > MOST_BYTES {
                     return Err(SheetFault::TooLong);
                 }
-                if text.len() > 120 {
+                if text.len() > MOST_IN_LINE {
                     return Err(SheetFault::Line(LineFault::TooLong));
                 }
                 Ok(Line { number: self.passed, text })

@@ -34,8 +34,8 @@ ghost-self-in-Some c =
     let a : Along (s .sheet .now) (s .at + (length (c .in-Some .halves .front .now) + 1)) (s .passed + 1) = subst (λ n. Along (s .sheet .now) (s .at + (n + 1)) (s .passed + 1)) (sym f) (p .1) in
     (omega arith, (omega (arith, s .counted), (a, tt)))
 
-pub returns-then-self-gt60000 : need.returns-then-self-gt60000
-returns-then-self-gt60000 c =
+pub returns-then-self-gt-MOST-BYTES : need.returns-then-self-gt-MOST-BYTES
+returns-then-self-gt-MOST-BYTES c =
     let s = c .args .self .now in
     let h = c .in-Some .ensures tt in
     let rest = take (length (s .sheet .now) - s .at) (drop (s .at) (s .sheet .now)) in
@@ -43,8 +43,8 @@ returns-then-self-gt60000 c =
     let f = ap length (h .1 .0) in
     record { same = refl; cases = (p .0 ∙ kept-not (s .at) (before 10 rest) (omega arith), refl) }
 
-pub returns-then-text-gt120 : need.returns-then-text-gt120
-returns-then-text-gt120 c =
+pub returns-then-text-gt-MOST-IN-LINE : need.returns-then-text-gt-MOST-IN-LINE
+returns-then-text-gt-MOST-IN-LINE c =
     let s = c .args .self .now in
     let h = c .in-Some .ensures tt in
     let rest = take (length (s .sheet .now) - s .at) (drop (s .at) (s .sheet .now)) in
@@ -58,8 +58,8 @@ returns-in-None c =
     let p = last-line (s .sheet .now) _ (s .at) (s .passed) (s .along) (take-rest (s .sheet .now) (s .at)) (c .in-None .ensures tt) (c .if-self .left) in
     record { same = refl; cases = (p .0, refl) }
 
-pub returns-else-text-gt120 : need.returns-else-text-gt120
-returns-else-text-gt120 c =
+pub returns-else-text-gt-MOST-IN-LINE : need.returns-else-text-gt-MOST-IN-LINE
+returns-else-text-gt-MOST-IN-LINE c =
     let s = c .args .self .now in
     let h = c .in-Some .ensures tt in
     let rest = take (length (s .sheet .now) - s .at) (drop (s .at) (s .sheet .now)) in
