@@ -43,7 +43,7 @@ abbrev pub fault-lines : List (List ℕ) → ℕ → Result FaultPart ℕ
 fault-lines ls n =
     cond (faults-here (line-after ls 2))
     (next (line-gives 3 (number-line (codes "faults") (line-after ls 2))) (λ f.
-     next (line-gives 4 (faulty-line (line-after ls 3))) (λ w. Ok (fault-part f w 4))))
+    next (line-gives 4 (faulty-line (line-after ls 3))) (λ w. Ok (fault-part f w 4))))
     (next (line-gives 3 (faulty-line (line-after ls 2))) (λ w. Ok (fault-part (faults-left-out n) w 3)))
 
 -- one more reading after those that came before

@@ -12,8 +12,6 @@ ghost use Rattle.sheet_lines.specs.Readings.{call-line};
 ghost use Rattle.sheet.specs.Sheets.{line-gives, call-list, sized};
 ghost use Rattle.sheet.specs.declared.calls.CallsFault.the-variants.{Sheet, Memory};
 ghost use Rattle.sheet.specs.Stops.{calls-stopped};
-use std::alloc::AllocError;
-use std::alloc::Global;
 use sheet_fields::texts::is_text;
 use sheet_lines::call::Call;
 use sheet_lines::cursor::Cursor;
@@ -22,6 +20,8 @@ use sheet_lines::fault::LineFault;
 use sheet_lines::fault::LineFromField;
 use sheet_lines::fault::SheetFault;
 use sheet_lines::fault::SheetFromLine;
+use std::alloc::AllocError;
+use std::alloc::Global;
 
 // `hand=`, `repeat=`, `lose=` or `timer=` and a number.
 fn read_call(line: Line) -> Result<Call, LineFault>

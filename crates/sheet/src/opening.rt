@@ -72,8 +72,14 @@ pub fn take_faults(cursor: &mut Cursor, parties: u64) -> Result<Faults, SheetFau
     let line = cursor.line()?;
     if is_faults(line) {
         let most = read_faults(line)?;
-        return Ok(Faults { most, parties: take_faulty(cursor)? });
+        return Ok(Faults {
+            most,
+            parties: take_faulty(cursor)?,
+        });
     }
     let faulty = read_faulty(line)?;
-    Ok(Faults { most: left_out(parties), parties: faulty })
+    Ok(Faults {
+        most: left_out(parties),
+        parties: faulty,
+    })
 }

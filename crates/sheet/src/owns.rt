@@ -54,7 +54,11 @@ fn take_own<V: SheetValue>(cursor: &mut Cursor, faulty: u64, party: u64) -> Resu
 }
 
 // Reads the own values of parties 1 to `parties`, at most 8; the places after them stay blank.
-pub fn take_owns<V: SheetValue>(cursor: &mut Cursor, faulty: u64, parties: u64) -> Result<[V; 8], SheetFault>
+pub fn take_owns<V: SheetValue>(
+    cursor: &mut Cursor,
+    faulty: u64,
+    parties: u64,
+) -> Result<[V; 8], SheetFault>
     requires { ⌜ parties ≤ 8 ⌝ }
     ensures same { λ _. ⌜ now (now (cursor .exit) .sheet) ≡ now (now (cursor .entry) .sheet) ⌝ }
     ensures passed { λ r. ⌜ made r (λ _. now (cursor .exit) .passed ≡ now (cursor .entry) .passed + parties) ⌝ }

@@ -29,7 +29,11 @@ use values::order::Order;
 use values::order::OrderValue;
 
 // Reads the own lines, and puts all of a setup together.
-fn read_setup<V: SheetValue>(cursor: &mut Cursor, parties: u64, faults: Faults) -> Result<Setup<V>, SheetFault>
+fn read_setup<V: SheetValue>(
+    cursor: &mut Cursor,
+    parties: u64,
+    faults: Faults,
+) -> Result<Setup<V>, SheetFault>
     requires { ⌜ parties ≤ 8 ⌝ }
     ensures same { λ _. ⌜ now (now (cursor .exit) .sheet) ≡ now (now (cursor .entry) .sheet) ⌝ }
     ensures passed { λ r. ⌜ made r (λ _. now (cursor .exit) .passed ≡ now (cursor .entry) .passed + parties) ⌝ }

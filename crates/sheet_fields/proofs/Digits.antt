@@ -9,7 +9,7 @@ use lib.ListN.{length, take, drop, getD}
 use lib.Dec.{eqb, leb, ltb}
 use Rattle.std.specs.Reads.{value}
 use Rattle.std.specs.Text.{digitValue}
-use Rattle.std.specs.shelf.Digits.{numberAfter} 
+use Rattle.std.specs.shelf.Digits.{numberAfter}
 use Rattle.std.specs.shelf.Digits as words
 use Rattle.std.proofs.shelf.Lists.{take-append-drop, map-append}
 use Rattle.std.proofs.shelf.Digits.{value-is, numberAfter-append, numberAfter-ge}

@@ -33,5 +33,8 @@ pub fn cut<'a>(s: &'a [u8], stop: u8) -> Option<Halves<'a>>
     if end >= s.len() {
         return None;
     }
-    Some(Halves { front: &s[0..end], rest: &s[end + 1..s.len()] })
+    Some(Halves {
+        front: &s[0..end],
+        rest: &s[end + 1..s.len()],
+    })
 }

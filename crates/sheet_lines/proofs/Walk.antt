@@ -18,9 +18,10 @@ use Rattle.sheet_lines.specs.Lines.{kept, unended, lines-from, lines, line-aft
 pub pieces-some : (stop : ℕ) (bs : List ℕ) → 0 < length (pieces stop bs)
 pieces-some stop [] = omega arith
 pieces-some stop (b ∷ bs) =
-    elim (eqb b stop) as (λ v. 0 < length (cond v ([] ∷ pieces stop bs) (onto b (pieces stop bs))))
-    [ true ↦ omega arith
-    | false ↦ elim (pieces stop bs) as (λ ps. 0 < length (onto b ps)) [ [] ↦ omega arith | _∷_ p ps ↦ omega arith ] ]
+    elim (eqb b stop) as (λ v. 0 < length (cond v ([] ∷ pieces stop bs) (onto b (pieces stop bs)))) [
+      | true ↦ omega arith
+      | false ↦ elim (pieces stop bs) as (λ ps. 0 < length (onto b ps)) [ [] ↦ omega arith | _∷_ p ps ↦ omega arith ]
+    ]
 
 lines-cons : (at : ℕ) (l : List ℕ) (ps : List (List ℕ)) → 0 < length ps → lines-from at (l ∷ ps) ≡ kept at l ∷ lines-from (at + (length l + 1)) ps
 lines-cons at l [] h = absurd (omega arith)

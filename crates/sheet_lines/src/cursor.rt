@@ -42,7 +42,11 @@ impl<'a> Cursor<'a> {
     pub fn new(sheet: &'a [u8]) -> Cursor<'a>
         ensures { λ r. ⌜ (r .passed ≡ 0) × (now (r .sheet) ≡ now (sheet .entry)) ⌝ }
     {
-        Cursor { sheet, at: 0, passed: 0 }
+        Cursor {
+            sheet,
+            at: 0,
+            passed: 0,
+        }
     }
 
     // How many lines were passed.
@@ -84,7 +88,10 @@ impl<'a> Cursor<'a> {
                 if text.len() > MOST_IN_LINE {
                     return Err(SheetFault::Line(LineFault::TooLong));
                 }
-                Ok(Line { number: self.passed, text })
+                Ok(Line {
+                    number: self.passed,
+                    text,
+                })
             }
         }
     }

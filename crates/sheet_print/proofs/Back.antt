@@ -59,8 +59,8 @@ numeral-decimal n h =
     let r = decimal-reads n h in
     numeral-is (decimal n) (r .0 .0)
     (λ l e. ⊎-elim (λ (p : 0 < n). let f = first-decimal n p h in omega arith)
-        (λ (p : n ≤ 0). let z : n ≡ 0 = omega arith in let k = ap length (decimal-digit n (omega arith)) in omega arith)
-        (cases-lt 0 n))
+    (λ (p : n ≤ 0). let z : n ≡ 0 = omega arith in let k = ap length (decimal-digit n (omega arith)) in omega arith)
+    (cases-lt 0 n))
     ∙ digits-true (decimal n) (r .0 .1)
 
 pub number-decimal : (n : ℕ) → n < 2 ^ 64 → number (decimal n) ≡ Some n
@@ -86,10 +86,10 @@ block-back f n p hf hn hp =
     let cn = digits-clear (decimal n) (decimal-reads n (omega arith) .0 .1) in
     let y = decimal n ++ (44 ∷ decimal p) in
     block-cut (decimal f ++ (44 ∷ y)) y (decimal f) (decimal n) (decimal p)
-        (has-joined (decimal f) y) (after-joined (decimal f) y cf) (has-joined (decimal n) (decimal p))
-        (before-joined (decimal f) y cf) (before-joined (decimal n) (decimal p) cn) (after-joined (decimal n) (decimal p) cn)
+    (has-joined (decimal f) y) (after-joined (decimal f) y cf) (has-joined (decimal n) (decimal p))
+    (before-joined (decimal f) y cf) (before-joined (decimal n) (decimal p) cn) (after-joined (decimal n) (decimal p) cn)
     ∙ block-numbers (decimal f) (decimal n) (decimal p) f n p
-        (number-decimal f hf) (between-decimal 0 4294967295 n (omega arith) (omega arith) (omega arith)) (between-decimal 0 65535 p (omega arith) (omega arith) (omega arith))
+    (number-decimal f hf) (between-decimal 0 4294967295 n (omega arith) (omega arith) (omega arith)) (between-decimal 0 65535 p (omega arith) (omega arith) (omega arith))
 
 pub pace-back : (n : ℕ) → 1 ≤ n → n ≤ 600 → order-text (codes "pace," ++ decimal n) ≡ Some (3 ∷ be 2 n)
 pace-back n p q = rw (between-decimal 1 600 n (omega arith) p q) refl

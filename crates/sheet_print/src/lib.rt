@@ -1,3 +1,3 @@
 // What a sheet says, as text: values, and a line for each part that was understood.
-pub mod value_text;
 pub mod report;
+pub mod value_text;

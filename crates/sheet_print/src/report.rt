@@ -41,7 +41,10 @@ fn setup_text<V: ValueText>(heap: Global, setup: &Setup<V>) -> Result<String, Al
     let parties = setup.parties;
     let faults = setup.faults;
     let faulty = parties_text(heap, setup.faulty)?;
-    let mut out = format!(heap, "parties={parties}\nfaults={faults}\nfaulty={faulty}\n")?;
+    let mut out = format!(
+        heap,
+        "parties={parties}\nfaults={faults}\nfaulty={faulty}\n"
+    )?;
     for i in 0..8 {
         let party = i as u64 + 1;
         if party <= setup.parties {

@@ -21,7 +21,7 @@ returns-in-Break-take-call c =
     let q = ap (λ s. length (lines s)) (v .0) in
     let l : c .loop-cursor .count < length (lines (now (c .args .cursor .now .sheet))) - c .args .cursor .now .passed = omega (arith, t, q, v .1) in
     let h = size-stops (now (c .loop-cursor .cursor .sheet)) (now (c .args .cursor .now .sheet)) (c .args .cursor .now .passed) (c .loop-cursor .cursor .passed) (c .loop-cursor .count) _ _
-        (v .0) (v .1) l (v .3) (b .value) in
+    (v .0) (v .1) l (v .3) (b .value) in
     record { value = ap (outcome _) (p .1 ∙ ap Err (p .2)) ∙ h }
 
 pub loop-cursor-again : need.loop-cursor-again
@@ -31,5 +31,5 @@ loop-cursor-again c =
     let t = leb-false _ _ (sym (c .loop-cursor-test .ensures tt)) in
     let q = ap (λ s. length (lines s)) (v .0) in
     let m = size-more (now (c .loop-cursor .cursor .sheet)) (now (c .args .cursor .now .sheet)) (c .args .cursor .now .passed) (c .loop-cursor .cursor .passed) (c .loop-cursor .count) _
-        (v .0) (v .1) (v .3) (b .value) in
-    ( b .same ∙ v .0, omega (arith, b .passed, v .1), omega (arith, t, q, v .1), m )
+    (v .0) (v .1) (v .3) (b .value) in
+    (b .same ∙ v .0, omega (arith, b .passed, v .1), omega (arith, t, q, v .1), m)

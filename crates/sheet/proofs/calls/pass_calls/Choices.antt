@@ -10,7 +10,7 @@ use Rattle.sheet.proofs.calls.pass_calls.Given as given
 
 abbrev pub Inv-loop-cursor : given.InvT-loop-cursor
 Inv-loop-cursor l =
-      (now (l .cursor .sheet) ≡ now (l .entry .cursor .sheet))
+    (now (l .cursor .sheet) ≡ now (l .entry .cursor .sheet))
     × (l .cursor .passed ≡ l .entry .cursor .passed + l .count)
     × (l .count ≤ length (lines (now (l .entry .cursor .sheet))) - l .entry .cursor .passed)
     × (sized (some-calls (now (l .entry .cursor .sheet)) (l .entry .cursor .passed) (l .count)) ≡ Ok (l .count))

@@ -26,7 +26,7 @@ returns-in-Break-call c =
     let n = length (lines (now (c .args .cursor .now .sheet))) - c .args .cursor .now .passed in
     let l : length (vec-items (c .loop-cursor .calls)) < n = omega (arith, t, q, v .1) in
     let h = call-stops (now (c .loop-cursor .cursor .sheet)) (now (c .args .cursor .now .sheet)) (c .args .cursor .now .passed) (c .loop-cursor .cursor .passed) (length (vec-items (c .loop-cursor .calls))) n _ _
-        (v .0) (v .1) l (v .3) (b .value) in
+    (v .0) (v .1) l (v .3) (b .value) in
     record { value = rw (p .1, p .2) h }
 
 pub loop-cursor-again : need.loop-cursor-again
@@ -37,10 +37,11 @@ loop-cursor-again c =
     let q = ap (λ s. length (lines s)) (v .0) in
     let k = length (vec-items (c .loop-cursor .calls)) in
     let m = call-more (now (c .loop-cursor .cursor .sheet)) (now (c .args .cursor .now .sheet)) (c .args .cursor .now .passed) (c .loop-cursor .cursor .passed) k _ _
-        (v .0) (v .1) (v .3) (b .value) in
+    (v .0) (v .1) (v .3) (b .value) in
     let w : vec-items (c .push .last .self) ≡ vec-items (c .loop-cursor .calls) ++ c .in-Continue-call .call ∷ [] = search (needs, c .if-is-err .ensures tt) in
-    let e : length (vec-items (c .push .last .self)) ≡ k + 1 = ap length w ∙ length-push (vec-items (c .loop-cursor .calls)) (c .in-Continue-call .call) in
-    ( b .same ∙ v .0
-    , omega (arith, b .passed, v .1, e)
-    , omega (arith, t, q, v .1, e)
-    , ap (some-calls (now (c .args .cursor .now .sheet)) (c .args .cursor .now .passed)) e ∙ (m ∙ ap Ok (sym w)) )
+    let e : length (vec-items (c .push .last .self)) ≡ k + 1 = ap length w ∙ length-push (vec-items (c .loop-cursor .calls)) (c .in-Continue-call .call) in (
+      b .same ∙ v .0,
+      omega (arith, b .passed, v .1, e),
+      omega (arith, t, q, v .1, e),
+      ap (some-calls (now (c .args .cursor .now .sheet)) (c .args .cursor .now .passed)) e ∙ (m ∙ ap Ok (sym w)),
+    )

@@ -10,7 +10,7 @@ use Rattle.sheet.proofs.calls.take_calls.Given as given
 
 abbrev pub Inv-loop-cursor : given.InvT-loop-cursor
 Inv-loop-cursor l =
-      (now (l .cursor .sheet) ≡ now (l .entry .cursor .sheet))
+    (now (l .cursor .sheet) ≡ now (l .entry .cursor .sheet))
     × (l .cursor .passed ≡ l .entry .cursor .passed + length (vec-items (l .calls)))
     × (length (vec-items (l .calls)) ≤ length (lines (now (l .entry .cursor .sheet))) - l .entry .cursor .passed)
     × (some-calls (now (l .entry .cursor .sheet)) (l .entry .cursor .passed) (length (vec-items (l .calls))) ≡ Ok (vec-items (l .calls)))

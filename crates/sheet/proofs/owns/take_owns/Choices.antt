@@ -10,9 +10,9 @@ use Rattle.sheet.proofs.owns.take_owns.Given as given
 
 abbrev pub Inv-loop-i : given.InvT-loop-i
 Inv-loop-i g l =
-      (length (l .own) ≡ 8)
+    (length (l .own) ≡ 8)
     × (now (l .cursor .sheet) ≡ now (l .entry .cursor .sheet))
     × (l .cursor .passed ≡ l .entry .cursor .passed + l .i)
     × (drop (l .i) (map (g .V·Value .bytes) (l .own)) ≡ replicate (8 - l .i) (replicate (g .V·Value .width) 0))
     × (own-values (g .V·SheetValue .reads) (replicate (g .V·Value .width) 0) (lines (now (l .entry .cursor .sheet))) (l .faulty) (l .entry .cursor .passed) (l .i)
-        ≡ Ok (take (l .i) (map (g .V·Value .bytes) (l .own))))
+    ≡ Ok (take (l .i) (map (g .V·Value .bytes) (l .own))))

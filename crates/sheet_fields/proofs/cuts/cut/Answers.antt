@@ -16,7 +16,10 @@ returns c =
     let stop = c .args .stop in
     let end = c .place-of-end .result in
     let e = c .place-of-end .ensures in
-    let z : end - 0 ≡ end = omega arith in
-    ( has-is stop s ∙ lt-ltb _ _ (omega arith)
-    , ( ap (λ k. take k s) (z ∙ e) ∙ sym (before-front stop s)
-      , take-rest s _ ∙ (ap (λ k. drop (k + 1) s) e ∙ sym (after-drop stop s)) ) )
+    let z : end - 0 ≡ end = omega arith in (
+      has-is stop s ∙ lt-ltb _ _ (omega arith),
+      (
+        ap (λ k. take k s) (z ∙ e) ∙ sym (before-front stop s),
+        take-rest s _ ∙ (ap (λ k. drop (k + 1) s) e ∙ sym (after-drop stop s)),
+      ),
+    )

@@ -63,7 +63,8 @@ returns c =
     let d : digits s ≡ true = sym (ap digits all) ∙ c .loop-b .inv .1 in
     let l : 0 < length s = grind (arith, tells, c .if-is-empty .ensures tt) in
     let n : numeral s ≡ digits s =
-        elim (c .else-s-gt1 .came)
-        [ else-s-gt1·by·then-s-gt1·else-s-eq48 w ↦ numeral-is s l (λ _ e. omega arith)
-        | else-s-gt1·by·else-s-gt1 w ↦ numeral-is s l (λ h _. omega arith) ] in
+    elim (c .else-s-gt1 .came) [
+      | else-s-gt1·by·then-s-gt1·else-s-eq48 w ↦ numeral-is s l (λ _ e. omega arith)
+      | else-s-gt1·by·else-s-gt1 w ↦ numeral-is s l (λ h _. omega arith)
+    ] in
     ap Some v ∙ sym (number-is s (n ∙ d) (omega arith))

@@ -11,6 +11,7 @@ use Rattle.sheet_print.proofs.value_text.OrderShown.to_text.Needs as need
 pub returns-in-Pace : need.returns-in-Pace
 returns-in-Pace c =
     let r = c .in-Pace .rate in
-    record
-    { text = search needs
-    ; back = λ _. subst (λ (o : Order). order-text (order-shown o) ≡ Some (order-bytes o)) (sym (c .in-Pace .is)) (pace-back (r .number) (r .low) (r .high)) }
+    record {
+      text = search needs;
+      back = λ _. subst (λ (o : Order). order-text (order-shown o) ≡ Some (order-bytes o)) (sym (c .in-Pace .is)) (pace-back (r .number) (r .low) (r .high));
+    }
