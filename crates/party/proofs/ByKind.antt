@@ -1,32 +1,18 @@
 -- Which rule a kind of message has.
-use mathlib.Core.Path.{_≡_, refl, sym, ap, _∙_}
+use mathlib.Core.Path.{_≡_, refl, ap, _∙_}
 use mathlib.Core.Bool.{Bool, true, false, cond, _&&_}
 use native.Mathlib.Omega.{arith}
 use Prim.Native.Nat.{ℕ, _≤_}
 use lib.Dec.{eqb, leb, ltb}
 use borrow.Author.Tests.{ne-eqb, le-leb}
-use Rattle.std.specs.declared.option.Option.{Option}
 use Rattle.messages.specs.Messages.{Msg, between}
-use Rattle.rules.specs.Party.{Setting, Suggest, Proposal, nothing, waiting, echoed, dropped, Party, Step, still, and-then, none}
+use Rattle.rules.specs.Party.{Setting, Proposal, nothing, waiting, echoed, dropped, Party, Step, still, and-then, none}
 use Rattle.rules.specs.Thresholds.{primary}
-use Rattle.rules.specs.Tests.{best, heeded, is-nothing}
-use Rattle.rules.specs.Step.{told-suggest, propose-due, propose, on-suggest, on-request, on-proof, on-propose, on-vote, wake, on-lock, on-done, on-abort, react, step}
-use Rattle.party.proofs.Ways.{passed, failed}
+use Rattle.rules.specs.Tests.{heeded, is-nothing}
+use Rattle.rules.specs.Step.{propose, on-suggest, on-request, on-proof, on-propose, on-vote, wake, on-lock, on-done, on-abort, react, step}
+use Rattle.posting.proofs.Choosing.{passed, failed}
 
 module _ (g : Setting) (me : ℕ) (p : Party) (m : Msg) where
-  -- ## A suggest
-  abbrev after-suggest : Party → Step
-  after-suggest q = cond (propose-due g me q) (propose g me q (best g q (g .n))) (still q)
-
-  pub suggest-proposed : (q : Party) (b : Option Suggest) → q ≡ told-suggest g me p m → true ≡ propose-due g me q → b ≡ best g q (g .n) → on-suggest g me p m ≡ propose g me q b
-  unfolding on-suggest
-  suggest-proposed q b e h f =
-    ap after-suggest (sym e) ∙ (passed (propose-due g me q) (propose g me q (best g q (g .n))) (still q) h ∙ ap (propose g me q) (sym f))
-
-  pub suggest-still : (q : Party) → q ≡ told-suggest g me p m → false ≡ propose-due g me q → on-suggest g me p m ≡ still q
-  unfolding on-suggest
-  suggest-still q e h = ap after-suggest (sym e) ∙ failed (propose-due g me q) (propose g me q (best g q (g .n))) (still q) h
-
   -- ## By kind
   abbrev rule-of : ℕ → Step
   rule-of k =

@@ -1,4 +1,1 @@
-pub mod Ways
-pub mod Settled
 pub mod ByKind
-pub mod Within

@@ -1,2 +1,0 @@
-pub mod Timer
-pub mod Proposals

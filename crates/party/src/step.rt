@@ -12,21 +12,21 @@ ghost use Rattle.rules.specs.Step.{react, step as stepped, on-vote, wake, on-ti
 ghost use Rattle.rows.specs.Meaning.{setting-of, party-of, proposal-of};
 ghost use Rattle.posting.specs.Posting.{Takes, Does};
 use checks::heed::heeds;
-use crate::aborts::on_abort;
-use crate::aborts::on_time_out;
-use crate::dones::on_done;
-use crate::dones::on_lock;
-use crate::proposals::on_proof;
-use crate::proposals::on_propose;
-use crate::proposals::wake_proposal;
-use crate::requests::on_request;
-use crate::suggests::on_suggest;
-use crate::votes::on_vote;
 use messages::message::Message;
+use proposing::proposals::on_proof;
+use proposing::proposals::on_propose;
+use proposing::proposals::wake_proposal;
+use proposing::suggests::on_suggest;
+use requests::requests::on_request;
 use rows::record::Record;
 use rows::row::Row;
 use rows::seat::Seat;
 use values::value::Value;
+use views::aborts::on_abort;
+use views::aborts::on_time_out;
+use voting::dones::on_done;
+use voting::dones::on_lock;
+use voting::votes::on_vote;
 use wires::wire::Wire;
 
 // A key3 is a vote, and may free a waiting proposal.

@@ -7,7 +7,7 @@ use Rattle.rules.specs.Facts.{Seated, Fits}
 use Rattle.rules.proofs.Few.{posts-few}
 use Rattle.rules.proofs.Ranges.{posts-in-range, bounds-kept}
 use Rattle.rows.specs.Meaning.{setting-of, party-of}
-use Rattle.party.proofs.Within.{all-values, takes-own, kind-low, kind-high}
+use Rattle.posting.proofs.Within.{all-values, takes-own, kind-low, kind-high}
 use Rattle.party.proofs.step.timer.Needs as need
 
 pub on-time-out-requires : need.on-time-out-requires

@@ -1,0 +1,2 @@
+pub mod proposals;
+pub mod suggests;

@@ -1,0 +1,2 @@
+pub mod votes;
+pub mod dones;
