@@ -1,0 +1,3 @@
+pub mod refusal;
+pub mod liars;
+pub mod bounds;
