@@ -5,3 +5,6 @@ pub mod Posts
 pub mod Tests
 pub mod Step
 pub mod Bounds
+pub mod Quorums
+pub mod Figures
+pub mod Facts

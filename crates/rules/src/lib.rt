@@ -1,1 +1,3 @@
-pub fn nothing() -> u8 { 0 }
+pub mod thresholds;
+pub mod figures;
+pub mod facts;

@@ -1,0 +1,2 @@
+pub mod Senders
+pub mod Tables

@@ -1,0 +1,10 @@
+pub mod seat;
+pub mod keys;
+pub mod record;
+pub mod row;
+pub mod rows;
+pub mod tally;
+pub mod thresholds;
+pub mod claims;
+pub mod notes;
+pub mod clear;

@@ -1,0 +1,7 @@
+pub mod Counts
+pub mod Quorums
+pub mod Worked
+pub mod Largest
+pub mod Sent
+pub mod Few
+pub mod Ranges
