@@ -1,7 +1,7 @@
 -- The code's rows by sender: one read, one written, one more counted.
 use mathlib.Core.Path.{_≡_, refl, sym, ap, _∙_, fun-ext}
 use mathlib.Core.Bool.{Bool, true, false, cond}
-use mathlib.Core.List.{List, [], _∷_, map}
+use mathlib.Core.List.{List, [], _∷_, _++_, map}
 use mathlib.Core.Logic.{inl, inr}
 use Prim.Native.Nat.{ℕ, zero, suc, _+_, _-_, _≤_, _<_}
 use borrow.Author.Tests.{eq-eqb, ne-eqb}
@@ -9,8 +9,8 @@ use Rattle.std.proofs.shelf.Tests.{cases-eq}
 use native.Mathlib.Omega.{arith}
 use native.Mathlib.Numerals.{add-one}
 use lib.Dec.{eqb}
-use lib.ListN.{length, getD, set}
-use Rattle.std.proofs.shelf.Lists.{map-set, getD-map, length-map, getD-set-same, getD-set-other}
+use lib.ListN.{length, getD, set, take, drop}
+use Rattle.std.proofs.shelf.Lists.{map-set, getD-map, length-map, getD-set-same, getD-set-other, take-all, drop-all, append-nil}
 use Rattle.rules.specs.Counting.{count, upd}
 use Rattle.rules.specs.Party as model
 use Rattle.rules.specs.Step.{empty-row}
@@ -18,6 +18,10 @@ use Rattle.rows.specs.declared.row.Row.{Row}
 use Rattle.std.specs.declared.option.Option.{Option}
 use Rattle.std.specs.declared.option.Option.the-variants.{Some, None}
 use Rattle.rows.specs.Meaning.{row-of, rows-of, vote-of}
+
+-- a map in place that has come to the end
+pub wholly-mapped : {X : Type 0} (f : X → X) (xs ys : List X) (k : ℕ) → length xs ≤ k → ys ≡ map f (take k xs) ++ drop k xs → ys ≡ map f xs
+wholly-mapped f xs ys k h e = e ∙ rw (take-all k xs h, drop-all k xs h) (append-nil (map f xs))
 
 -- five tests, whatever they say
 all-same : {X : Type 0} {x : X} (a b c d e : Bool) → cond a x (cond b x (cond c x (cond d x (cond e x x)))) ≡ x

@@ -8,3 +8,4 @@ pub mod thresholds;
 pub mod claims;
 pub mod notes;
 pub mod clear;
+pub mod fields;

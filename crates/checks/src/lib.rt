@@ -1,0 +1,4 @@
+pub mod lock;
+pub mod suggests;
+pub mod aborts;
+pub mod heed;
