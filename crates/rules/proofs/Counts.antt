@@ -51,8 +51,8 @@ pub count-pos : (p : ℕ → Bool) (n j : ℕ) → 1 ≤ j → j ≤ n → p j �
 count-pos p zero j k l e = absurd (omega arith)
 count-pos p (suc n) j k l e =
     elim (cases-lt n j) [
-      inl m ↦ let q : j ≡ suc n = omega arith in grind arith
-    | inr m ↦ let ih = count-pos p n j k m e in grind arith
+      | inl m ↦ let q : j ≡ suc n = omega arith in grind arith
+      | inr m ↦ let ih = count-pos p n j k m e in grind arith
     ]
 
 -- two sets that are too large together share a member

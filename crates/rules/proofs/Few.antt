@@ -49,7 +49,7 @@ module _ (g : Setting) (me : ℕ) where
   few-request p m =
       record {
         few = cond-both (eqb (m .view) (p .rec .view)) _ _ (λ (xs : List Msg). length xs ≤ 8)
-            (λ _. append-few 1 7 _ _ (suggest-few g me (p .rec) (m .from)) (made-few g me (p .rec) (m .from))) (λ _. omega arith)
+            (λ _. append-few 1 7 _ _ (suggest-few g me (p .rec) (m .from)) (made-few g me (p .rec) (m .from))) (λ _. omega arith);
       }
 
   few-wake-proposal : (x : Proposal) (p : Party) → Few n (wake-proposal g me x p)
@@ -71,8 +71,8 @@ module _ (g : Setting) (me : ℕ) where
   unfolding on-propose
   few-on-propose p m =
       cond-both (not (g .allows (m .value))) _ _ (Few n) (λ _. few-still _ _)
-        (λ _. cond-both (lock-fits g me (p .rec) (m .value)) _ _ (Few n) (λ _. record { few = to-each-short _ _ n })
-          (λ _. cond-both (may-wait g me (p .rec) (m .key)) _ _ (Few n) (λ _. few-wake _) (λ _. few-still _ _)))
+      (λ _. cond-both (lock-fits g me (p .rec) (m .value)) _ _ (Few n) (λ _. record { few = to-each-short _ _ n })
+      (λ _. cond-both (may-wait g me (p .rec) (m .key)) _ _ (Few n) (λ _. few-wake _) (λ _. few-still _ _)))
 
   few-vote : (p : Party) (m : Msg) → Few n (on-vote g me p m)
   unfolding on-vote
@@ -83,7 +83,7 @@ module _ (g : Setting) (me : ℕ) where
   unfolding on-lock
   few-lock p m =
       cond-both (none (told-vote g me p m .rec .done) && voted g (told-vote g me p m) 9 (m .value)) _ _ (Few n)
-        (λ _. record { few = to-each-short _ _ n }) (λ _. few-still _ _)
+      (λ _. record { few = to-each-short _ _ n }) (λ _. few-still _ _)
 
   few-join-done : (p : Party) (x : List ℕ) → Few n (join-done g me p x)
   few-join-done p x =
@@ -118,7 +118,7 @@ module _ (g : Setting) (me : ℕ) where
   unfolding on-timer
   few-timer p =
       few-then n (n + (1 + n)) _ _
-        (cond-both (ltb (aborts g me p me) (p .rec .view)) _ _ (Few n) (λ _. record { few = to-each-short _ _ n }) (λ _. few-still _ _)) few-leave
+      (cond-both (ltb (aborts g me p me) (p .rec .view)) _ _ (Few n) (λ _. record { few = to-each-short _ _ n }) (λ _. few-still _ _)) few-leave
 
   abbrev top : ℕ
   top = 3 * n + 8
@@ -126,14 +126,14 @@ module _ (g : Setting) (me : ℕ) where
   few-react : (p : Party) (m : Msg) → Few top (react g me p m)
   few-react p m =
       cond-both (eqb (m .kind) 1) _ _ (Few top) (λ _. few-more _ _ _ (omega arith) (few-request p m))
-        (λ _. cond-both (eqb (m .kind) 2) _ _ (Few top) (λ _. few-more _ _ _ (omega arith) (few-suggest p m))
-          (λ _. cond-both (eqb (m .kind) 3) _ _ (Few top) (λ _. few-more _ _ _ (omega arith) (few-proof p m))
-            (λ _. cond-both (eqb (m .kind) 4) _ _ (Few top) (λ _. few-more _ _ _ (omega arith) (few-on-propose p m))
-              (λ _. cond-both (leb (m .kind) 7) _ _ (Few top) (λ _. few-more _ _ _ (omega arith) (few-vote p m))
-                (λ _. cond-both (eqb (m .kind) 8) _ _ (Few top) (λ _. few-more _ _ _ (omega arith) (few-then n n _ _ (few-vote p m) few-wake))
-                  (λ _. cond-both (eqb (m .kind) 9) _ _ (Few top) (λ _. few-more _ _ _ (omega arith) (few-lock p m))
-                    (λ _. cond-both (eqb (m .kind) 10) _ _ (Few top) (λ _. few-more _ _ _ (omega arith) (few-done p m))
-                      (λ _. few-more _ _ _ (omega arith) (few-abort p m)))))))))
+      (λ _. cond-both (eqb (m .kind) 2) _ _ (Few top) (λ _. few-more _ _ _ (omega arith) (few-suggest p m))
+      (λ _. cond-both (eqb (m .kind) 3) _ _ (Few top) (λ _. few-more _ _ _ (omega arith) (few-proof p m))
+      (λ _. cond-both (eqb (m .kind) 4) _ _ (Few top) (λ _. few-more _ _ _ (omega arith) (few-on-propose p m))
+      (λ _. cond-both (leb (m .kind) 7) _ _ (Few top) (λ _. few-more _ _ _ (omega arith) (few-vote p m))
+      (λ _. cond-both (eqb (m .kind) 8) _ _ (Few top) (λ _. few-more _ _ _ (omega arith) (few-then n n _ _ (few-vote p m) few-wake))
+      (λ _. cond-both (eqb (m .kind) 9) _ _ (Few top) (λ _. few-more _ _ _ (omega arith) (few-lock p m))
+      (λ _. cond-both (eqb (m .kind) 10) _ _ (Few top) (λ _. few-more _ _ _ (omega arith) (few-done p m))
+      (λ _. few-more _ _ _ (omega arith) (few-abort p m)))))))))
 
   pub few-step : (p : Party) (m : Msg) → Few top (step g me p m)
   unfolding step
@@ -144,5 +144,5 @@ posts-few =
     record {
       by-message = λ g me p m. few-step g me p m .few;
       by-timer = λ g me p. let h = few-timer g me p .few in omega arith;
-      by-entry = λ g me p v. let h = few-enter g me p v .few in omega arith
+      by-entry = λ g me p v. let h = few-enter g me p v .few in omega arith;
     }

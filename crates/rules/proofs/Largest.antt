@@ -32,8 +32,8 @@ pub largest-most : (a : ℕ → ℕ) (t : ℕ → Bool) (n j : ℕ) → 1 ≤ j 
 largest-most a t zero j k l e = absurd (omega arith)
 largest-most a t (suc n) j k l e =
     elim (cases-lt n j) [
-      inl m ↦ let q : j ≡ suc n = omega arith in grind arith
-    | inr m ↦ let ih = largest-most a t n j k m e in grind arith
+      | inl m ↦ let q : j ≡ suc n = omega arith in grind arith
+      | inr m ↦ let ih = largest-most a t n j k m e in grind arith
     ]
 
 -- a bound of the entries bounds it
@@ -56,19 +56,26 @@ least-above a v (suc n) h = go (cases-lt 0 (count (λ j. leb v (a j)) n)) (cases
   where
     Least : ℕ → Type 0
     Least k = (m : ℕ) × (1 ≤ m) × (m ≤ k) × (v ≤ a m) × ((j : ℕ) → 1 ≤ j → j ≤ k → v ≤ a j → a m ≤ a j)
+
     P : ℕ → ℕ → Type 0
     P m j = v ≤ a j → a m ≤ a j
+
     pick : (r : Least n) → (a (suc n) < v) ⊎ (v ≤ a (suc n)) → (a (r .0) < a (suc n)) ⊎ (a (suc n) ≤ a (r .0)) → Least (suc n)
     pick r (inl l) o = (r .0, r .1, omega (arith, r .2), r .3, upto (P (r .0)) n (r .4) (λ k. absurd (omega arith)))
     pick r (inr l) (inl o) = (r .0, r .1, omega (arith, r .2), r .3, upto (P (r .0)) n (r .4) (λ k. omega arith))
     pick r (inr l) (inr o) = (suc n, omega arith, omega arith, l, upto (P (suc n)) n (λ j i k m. let z = r .4 j i k m in omega arith) (λ k. omega arith))
+
     go : (0 < count (λ j. leb v (a j)) n) ⊎ (count (λ j. leb v (a j)) n ≤ 0) → (a (suc n) < v) ⊎ (v ≤ a (suc n)) →
         (0 < count (λ j. leb v (a j)) n → Least n) → Least (suc n)
     go (inl c) d ih = pick (ih c) d (cases-lt (a (ih c .0)) (a (suc n)))
     go (inr c) d ih =
-        let here : v ≤ a (suc n) = grind (arith, tells) in
-        (suc n, omega arith, omega arith, here,
-          upto (P (suc n)) n (λ j i k m. absurd (let z = count-pos (λ i. leb v (a i)) n j i k (le-leb v (a j) m) in omega arith)) (λ k. omega arith))
+        let here : v ≤ a (suc n) = grind (arith, tells) in (
+          suc n,
+          omega arith,
+          omega arith,
+          here,
+          upto (P (suc n)) n (λ j i k m. absurd (let z = count-pos (λ i. leb v (a i)) n j i k (le-leb v (a j) m) in omega arith)) (λ k. omega arith),
+        )
 
 -- the largest number that k of n entries have reached, so the kth largest entry
 pub record Kth (k : ℕ) (a : ℕ → ℕ) (n u : ℕ) : Type 0 where
@@ -80,18 +87,19 @@ kth-is k a n pos fits =
     record {
       enough =
           elim (largest-is a t n) [
-            inl e ↦ let m = count-mono (λ _. true) (λ j. leb u (a j)) n (λ j i l _. le-leb u (a j) (omega arith)) in omega (arith, count-all n)
-          | inr e ↦ leb-true _ _ e
+            | inl e ↦ let m = count-mono (λ _. true) (λ j. leb u (a j)) n (λ j i l _. le-leb u (a j) (omega arith)) in omega (arith, count-all n)
+            | inr e ↦ leb-true _ _ e
           ];
       most = λ v h.
           let r = least-above a v n (omega arith) in
           let m = count-mono (λ j. leb v (a j)) (λ j. leb (a (r .0)) (a j)) n (λ j i l e. le-leb _ _ (r .4 j i l (leb-true _ _ e))) in
           let z = largest-most a t n (r .0) (r .1) (r .2) (le-leb k _ (omega arith)) in
-          omega (arith, r .3)
+          omega (arith, r .3);
     }
   where
     t : ℕ → Bool
     t x = leb k (count (λ j. leb x (a j)) n)
+
     u : ℕ
     u = largest a t n
 

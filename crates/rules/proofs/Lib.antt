@@ -5,3 +5,4 @@ pub mod Largest
 pub mod Sent
 pub mod Few
 pub mod Ranges
+pub mod Once

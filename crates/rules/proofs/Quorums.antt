@@ -23,7 +23,7 @@ module _ (g : Setting) (faulty : ℕ → Bool) (few : 3 * g .f < g .n) (bound : 
             let m = count-meet p (λ j. not (faulty j)) (g .n) in
             le-leb _ _ (omega (arith, leb-true _ _ k));
         meet = λ p q k l. count-share p q (g .n) (omega (arith, leb-true _ _ k, leb-true _ _ l));
-        one-honest = λ p k. let e = count-not faulty (g .n) in count-share p (λ j. not (faulty j)) (g .n) (omega (arith, leb-true _ _ k))
+        one-honest = λ p k. let e = count-not faulty (g .n) in count-share p (λ j. not (faulty j)) (g .n) (omega (arith, leb-true _ _ k));
       }
 
 module _ (n : ℕ) (honest : ℕ → Bool) (quorum voucher : (ℕ → Bool) → Bool) (r : Quorums n honest quorum voucher) where

@@ -53,14 +53,14 @@ module _ (P : Msg → Type 0) where
   all-each who what zero h = tt
   all-each who what (suc k) h =
       all-append P (to-each who what k) _ (all-each who what k (λ j i l. h j i (omega arith)))
-        (all-one (who (suc k)) (what (suc k)) (h (suc k) (omega arith) (omega arith)))
+      (all-one (who (suc k)) (what (suc k)) (h (suc k) (omega arith) (omega arith)))
 
 -- every message in the list is the one to some party that passes
 pub in-each : (who : ℕ → Bool) (what : ℕ → Msg) (k : ℕ) (m : Msg) → Has (to-each who what k) m →
     (j : ℕ) × (1 ≤ j) × (j ≤ k) × (who j ≡ true) × (what j ≡ m)
 in-each who what k m h =
     all-has (λ m. (j : ℕ) × (1 ≤ j) × (j ≤ k) × (who j ≡ true) × (what j ≡ m)) (to-each who what k) m
-      (all-each _ who what k (λ j i l e. (j, i, l, e, refl))) h
+    (all-each _ who what k (λ j i l e. (j, i, l, e, refl))) h
 
 module _ (g : Setting) (me : ℕ) where
   offer-few : (v : ℕ) (o : Option Keyed) (to : ℕ) → length (made-offer g me v o to) ≤ 1
@@ -81,7 +81,7 @@ module _ (g : Setting) (me : ℕ) where
   unfolding made
   made-few r to =
       let e = append-few 1 5 _ _ (offer-few (r .view) (r .offer) to) (append-few 1 4 _ _ (echo-few (r .view) (r .proposal) to)
-        (append-few 1 3 _ _ (vote-few 6 r to) (append-few 1 2 _ _ (vote-few 7 r to) (append-few 1 1 _ _ (vote-few 8 r to) (vote-few 9 r to))))) in
+      (append-few 1 3 _ _ (vote-few 6 r to) (append-few 1 2 _ _ (vote-few 7 r to) (append-few 1 1 _ _ (vote-few 8 r to) (vote-few 9 r to))))) in
       omega arith
 
   pub suggest-few : (r : Record) (to : ℕ) → length (suggest-to g me r to) ≤ 1
@@ -108,7 +108,9 @@ module _ (g : Setting) (me : ℕ) where
         ((kind : ℕ) → 6 ≤ kind → kind ≤ 9 → r .field kind .at ≡ r .view → P (vote-msg g me kind (r .view) (r .field kind .value) to)) →
         All P (made g me r to)
     unfolding made
-    all-made r to a b c d =
-        (a, all-append P _ _ (all-offer (r .view) (r .offer) to b) (all-append P _ _ (all-echo (r .view) (r .proposal) to c)
+    all-made r to a b c d = (
+      a,
+      all-append P _ _ (all-offer (r .view) (r .offer) to b) (all-append P _ _ (all-echo (r .view) (r .proposal) to c)
           (all-append P _ _ (all-vote 6 r to (d 6 (omega arith) (omega arith))) (all-append P _ _ (all-vote 7 r to (d 7 (omega arith) (omega arith)))
-          (all-append P _ _ (all-vote 8 r to (d 8 (omega arith) (omega arith))) (all-vote 9 r to (d 9 (omega arith) (omega arith))))))))
+          (all-append P _ _ (all-vote 8 r to (d 8 (omega arith) (omega arith))) (all-vote 9 r to (d 9 (omega arith) (omega arith))))))),
+    )

@@ -38,7 +38,7 @@ leaving width allows =
       by-voucher = refl;
       by-quorum = refl;
       from-3 = λ me p h v. leaves g me p (ap (reached g) (fun-ext h)) v;
-      from-4 = λ me p h v. stays g me p (ap (reached g) (fun-ext h)) v
+      from-4 = λ me p h v. stays g me p (ap (reached g) (fun-ext h)) v;
     }
   where
     g : Setting
@@ -50,5 +50,5 @@ figures =
       sizes = record { one-of-4 = refl; one-of-3 = refl; most-of-64 = refl; more-of-64 = refl };
       opening = opening;
       bearing = bearing;
-      leaving = leaving
+      leaving = leaving;
     }

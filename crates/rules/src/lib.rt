@@ -1,3 +1,3 @@
-pub mod thresholds;
-pub mod figures;
 pub mod facts;
+pub mod figures;
+pub mod thresholds;
