@@ -10,13 +10,13 @@ use Rattle.rules.specs.Bounds.{every}
 
 -- one party more
 pub every-more : (t : ℕ → Bool) (i : ℕ) → every t i ≡ true → t (i + 1) ≡ true → every t (i + 1) ≡ true
-every-more t i h e = rw add-one (and-from (t (suc i)) (every t i) (rw ← add-one e) h)
+every-more t i h e = ap (every t) (add-one i) ∙ and-from (t (suc i)) (every t i) (sym (ap t (add-one i)) ∙ e) h
 
 -- one that fails
 pub every-not : (t : ℕ → Bool) (n i : ℕ) → i < n → t (i + 1) ≡ false → every t n ≡ false
 every-not t zero i l e = absurd (omega arith)
 every-not t (suc n) i l e =
     elim (cases-eq i n) [
-      inl q ↦ and-left (t (suc n)) (every t n) (ap (λ j. t (suc j)) (sym q) ∙ rw add-one at e)
+      inl q ↦ and-left (t (suc n)) (every t n) (ap (λ j. t (suc j)) (sym q) ∙ (sym (ap t (add-one i)) ∙ e))
     | inr q ↦ and-right (t (suc n)) (every t n) (every-not t n i (let z : i < n = omega (arith, q) in z) e)
     ]
