@@ -1,12 +1,12 @@
 -- What an honest party has said, by view: computed from its record after each step, and never stored by the program.
 use Prim.Native.Nat.{ℕ}
-use mathlib.Core.Bool.{Bool, true, false, cond, _&&_}
+use mathlib.Core.Bool.{cond, _&&_}
 use mathlib.Core.List.{List}
-use lib.Dec.{eqb}
+use lib.Dec.{eqb, ltb}
 use Rattle.std.specs.declared.option.Option.{Option}
 use Rattle.std.specs.declared.option.Option.the-variants.{Some, None}
 use Rattle.messages.specs.Messages.{between}
-use Rattle.rules.specs.Party.{Keyed, Suggest, Proof, Proposal, nothing, waiting, echoed, dropped, Record}
+use Rattle.rules.specs.Party.{Keyed, Suggest, Proof, Proposal, nothing, waiting, echoed, dropped, Record, none}
 
 pub record Log : Type 0 where
   -- by kind (5 echo, 6 key1, 7 key2, 8 key3, 9 lock) and view
@@ -14,6 +14,8 @@ pub record Log : Type 0 where
   pub offered : ℕ → Option Keyed
   pub suggested : ℕ → Option Suggest
   pub proved : ℕ → Option Proof
+  -- by view, the echo if it was made before a lock of its view
+  pub direct : ℕ → Option (List ℕ)
 
 abbrev pub echo-of : Proposal → Option (List ℕ)
 echo-of nothing = None
@@ -33,5 +35,10 @@ note log r =
       said = λ kind v. cond (eqb v (r .view)) (said-now r kind) (log .said kind v);
       offered = λ v. cond (eqb v (r .view)) (r .offer) (log .offered v);
       suggested = λ v. cond (eqb v (r .view)) (Some (r .suggest)) (log .suggested v);
-      proved = λ v. cond (eqb v (r .view)) (Some (r .proof)) (log .proved v)
+      proved = λ v. cond (eqb v (r .view)) (Some (r .proof)) (log .proved v);
+      direct = λ v. cond (eqb v (r .view) && (none (log .direct v) && ltb (r .field 9 .at) v)) (echo-of (r .proposal)) (log .direct v)
     }
+
+-- a party of which nothing is known yet
+abbrev pub silent : Log
+silent = record { said = λ _ _. None; offered = λ _. None; suggested = λ _. None; proved = λ _. None; direct = λ _. None }

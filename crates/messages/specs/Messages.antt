@@ -6,6 +6,7 @@ use lib.Dec.{eqb, leb}
 use lib.ListN.{length, replicate}
 use Rattle.std.specs.declared.option.Option.{Option}
 use Rattle.std.specs.declared.option.Option.the-variants.{Some, None}
+use Rattle.values.specs.Limits.{party-limit}
 use Rattle.values.specs.Same.{equal}
 
 pub record Msg : Type 0 where
@@ -25,7 +26,7 @@ abbrev pub last-view : ℕ
 last-view = 2000000000
 
 abbrev pub most-parties : ℕ
-most-parties = 64
+most-parties = party-limit
 
 -- `x` lies from `low` to `high`
 abbrev pub between : ℕ → ℕ → ℕ → Bool
@@ -62,6 +63,16 @@ is-zero (Some p) = eqb p 0
 abbrev pub is-party : ℕ → Bool
 is-party p = between 1 most-parties p
 
+-- each field in range for a kind that uses it, else 0
+abbrev pub view-fits : ℕ → ℕ → Bool
+view-fits kind view = cond (uses-view kind) (between 1 (highest-view kind) view) (eqb view 0)
+
+abbrev pub key-fits : Bool → ℕ → Bool
+key-fits used key = cond used (leb key last-view) (eqb key 0)
+
+abbrev pub earlier-fits : Bool → Option ℕ → Bool
+earlier-fits used previous = cond used (previous-fits previous) (is-zero previous)
+
 module _ (valid : List ℕ → Bool) (width : ℕ) where
   -- bytes that stand for a value: blank where the kind does not use the field
   abbrev pub value-fits : Bool → List ℕ → Bool
@@ -71,9 +82,9 @@ module _ (valid : List ℕ → Bool) (width : ℕ) where
   abbrev pub in-range : Msg → Bool
   in-range m =
       between 1 11 (m .kind) && (is-party (m .from) && (is-party (m .to) &&
-      (cond (uses-view (m .kind)) (between 1 (highest-view (m .kind)) (m .view)) (eqb (m .view) 0) &&
-      (cond (uses-key (m .kind)) (leb (m .key) last-view) (eqb (m .key) 0) &&
-      (cond (uses-second (m .kind)) (leb (m .second-key) last-view) (eqb (m .second-key) 0) &&
-      (cond (uses-previous (m .kind)) (previous-fits (m .previous)) (is-zero (m .previous)) &&
+      (view-fits (m .kind) (m .view) &&
+      (key-fits (uses-key (m .kind)) (m .key) &&
+      (key-fits (uses-second (m .kind)) (m .second-key) &&
+      (earlier-fits (uses-previous (m .kind)) (m .previous) &&
       (value-fits (uses-value (m .kind)) (m .value) &&
       value-fits (uses-second (m .kind)) (m .second-value))))))))

@@ -1,11 +1,10 @@
 -- A wire by its meaning, a list of waiting messages and a capacity: what each call answers and leaves.
 use Prim.Native.Nat.{ℕ, zero, suc, _-_}
 use mathlib.Core.List.{List, [], _∷_, _++_}
-use mathlib.Core.Bool.{Bool, true, false, cond, _&&_}
-use lib.Dec.{eqb, ltb}
+use mathlib.Core.Bool.{Bool, cond, _&&_}
+use lib.Dec.{ltb}
 use lib.ListN.{length, replicate}
-use Rattle.std.specs.declared.option.Option.{Option}
-use Rattle.std.specs.declared.option.Option.the-variants.{Some, None}
+use Rattle.std.specs.declared.option.Option.the-variants.{Some}
 use Rattle.std.specs.declared.result.Result.{Result}
 use Rattle.std.specs.declared.result.Result.the-variants.{Ok, Err}
 use Rattle.messages.specs.Messages.{Msg, in-range}
@@ -60,6 +59,13 @@ module _ (valid : List ℕ → Bool) (width : ℕ) where
 abbrev pub fixed-request : ℕ → Msg
 fixed-request width =
     record {
-      kind = 1; from = 1; to = 1; view = 1; key = 0; value = replicate width 0;
-      second-key = 0; second-value = replicate width 0; previous = Some 0
+      kind = 1;
+      from = 1;
+      to = 1;
+      view = 1;
+      key = 0;
+      value = replicate width 0;
+      second-key = 0;
+      second-value = replicate width 0;
+      previous = Some 0;
     }

@@ -1,2 +1,5 @@
 pub mod fault;
+pub mod fixed;
+pub mod gap;
+pub mod table;
 pub mod wire;

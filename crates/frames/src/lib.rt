@@ -1,0 +1,3 @@
+pub mod codec;
+pub mod fault;
+pub mod figures;

@@ -1,0 +1,5 @@
+pub mod block_cases;
+pub mod case;
+pub mod order_cases;
+#[cfg(test)]
+mod tests;

@@ -1,0 +1,4 @@
+pub mod Same
+pub mod Numbers
+pub mod Writes
+pub mod Readings

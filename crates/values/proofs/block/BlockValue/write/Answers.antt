@@ -1,0 +1,4 @@
+use Rattle.values.proofs.block.BlockValue.write.Needs as need
+
+pub returns : need.returns
+returns c = cc
