@@ -1,0 +1,4 @@
+pub mod audience;
+pub mod post;
+pub mod letters;
+pub mod sends;
