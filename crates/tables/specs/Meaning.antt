@@ -12,9 +12,9 @@ use Rattle.rows.specs.declared.record.Record.{Record}
 use Rattle.rows.specs.declared.row.Row.{Row}
 use Rattle.agreement.specs.Ring as agreement
 use Rattle.agreement.specs.Calls.{Answer, said, refused, named}
-use Rattle.ring.specs.declared.ring.Ring.{Ring}
-use Rattle.ring.specs.declared.refusal.Refusal.{Refusal}
-use Rattle.ring.specs.Refusals.{refusal-number}
+use Rattle.tables.specs.declared.ring.Ring.{Ring}
+use Rattle.tables.specs.declared.refusal.Refusal.{Refusal}
+use Rattle.tables.specs.Refusals.{refusal-number}
 
 -- what stands for a record that the table lacks
 abbrev pub no-record : model.Record

@@ -1,10 +1,10 @@
 use Prim.Native.Nat.{_+_, _≤_}
 use mathlib.Core.Path.{_≡_, sym, _∙_}
 use native.Mathlib.Omega.{arith}
-use Rattle.ring.proofs.Words.{count-more, count-same}
+use Rattle.tables.proofs.Words.{count-more, count-same}
 use Rattle.agreement.specs.Calls.{named}
-use Rattle.ring.proofs.liars.count_named.Needs as need
-use Rattle.ring.proofs.liars.count_named.Needs.{then-is-named, else-is-named}
+use Rattle.tables.proofs.liars.count_named.Needs as need
+use Rattle.tables.proofs.liars.count_named.Needs.{then-is-named, else-is-named}
 
 pub loop-j-again : need.loop-j-again
 loop-j-again c =

@@ -4,8 +4,8 @@ use lib.ListN.{length}
 use Rattle.rules.specs.Bounds.{every, row-fits}
 use Rattle.rows.specs.Meaning.{rows-of}
 use Rattle.rows.proofs.Senders.{row-read}
-use Rattle.ring.proofs.Every.{every-more, every-not}
-use Rattle.ring.proofs.tables.rows_in_bounds.Needs as need
+use Rattle.tables.proofs.Every.{every-more, every-not}
+use Rattle.tables.proofs.tables.rows_in_bounds.Needs as need
 
 pub returns-then-not-row-in-bounds : need.returns-then-not-row-in-bounds
 returns-then-not-row-in-bounds g c = ?

@@ -7,7 +7,7 @@ ghost use lib.ListN.{length, getD};
 ghost use Rattle.rules.specs.Bounds.{party-fits, every, row-fits};
 ghost use Rattle.rows.specs.Meaning.{record-of, rows-of, party-of};
 ghost use Rattle.agreement.specs.Ring.{tables-fit};
-ghost use Rattle.ring.specs.Meaning.{ring-of};
+ghost use Rattle.tables.specs.Meaning.{ring-of};
 use crate::bounds::record_in_bounds;
 use crate::bounds::row_in_bounds;
 use crate::liars::is_named;

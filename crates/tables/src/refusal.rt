@@ -1,6 +1,6 @@
 // Why a call on a ring is refused. A refusal touches nothing.
 ghost use mathlib.Core.Path.{_≡_};
-ghost use Rattle.ring.specs.Refusals.{refusal-number};
+ghost use Rattle.tables.specs.Refusals.{refusal-number};
 
 #[derive(Clone, Copy, PartialEq, Eq, Debug)]
 pub enum Refusal {

@@ -1,7 +1,7 @@
 -- The number of each refusal.
 use Prim.Native.Nat.{ℕ}
-use Rattle.ring.specs.declared.refusal.Refusal.{Refusal}
-use Rattle.ring.specs.declared.refusal.Refusal.the-variants.{Sizes, NoParty, Standing, Tables, OwnValue, Field, NoMessage, NoRoom, WireInUse, Decided, LastView}
+use Rattle.tables.specs.declared.refusal.Refusal.{Refusal}
+use Rattle.tables.specs.declared.refusal.Refusal.the-variants.{Sizes, NoParty, Standing, Tables, OwnValue, Field, NoMessage, NoRoom, WireInUse, Decided, LastView}
 
 abbrev pub refusal-number : Refusal → ℕ
 refusal-number Sizes = 1
