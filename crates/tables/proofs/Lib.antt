@@ -1,2 +1,5 @@
 pub mod Words
 pub mod Every
+pub mod Parts
+pub mod Typed
+pub mod Fitting

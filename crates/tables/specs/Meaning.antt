@@ -35,13 +35,17 @@ module _ {V : Type 0} (bytes : V → List ℕ) where
   unfoldable pub parties-of : ℕ → List (Record V) → List (Row V) → ℕ → model.Party
   parties-of n records rows i = record { rec = record-at records i; rows = rows-of bytes (part n rows i) }
 
-  -- the ring over its tables and a wire
-  abbrev pub ring-of : Ring → List (Record V) → List (Row V) → List Msg → ℕ → agreement.Ring
-  ring-of ring records rows wire capacity =
+  -- the ring over its tables and a wire, the rows cut into parts of this size
+  abbrev pub ring-at : ℕ → Ring → List (Record V) → List (Row V) → List Msg → ℕ → agreement.Ring
+  ring-at size ring records rows wire capacity =
       record {
-        n = ring .n; f = ring .f; faulty = named (ring .faulty); parties = parties-of (ring .n) records rows;
+        n = ring .n; f = ring .f; faulty = named (ring .faulty); parties = parties-of size records rows;
         records = length records; rows = length rows; wire = wire; capacity = capacity
       }
+
+  -- a ring that is set up cuts the rows by its own size
+  abbrev pub ring-of : Ring → List (Record V) → List (Row V) → List Msg → ℕ → agreement.Ring
+  ring-of ring records rows wire capacity = ring-at (ring .n) ring records rows wire capacity
 
 -- a call's answer: how many posts, or the number of the refusal
 abbrev pub answer-of : Result ℕ Refusal → Answer

@@ -1,0 +1,4 @@
+pub mod shown;
+pub mod lookup;
+pub mod losing;
+pub mod sending;
