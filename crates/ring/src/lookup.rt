@@ -1,8 +1,8 @@
 // Show: the state of a party, its view, its lock and what it has decided.
 ghost use mathlib.Core.Path.{_≡_};
+ghost use mathlib.Core.Bool.{_&&_};
 ghost use mathlib.Core.List.{List};
-ghost use Prim.Native.Nat.{ℕ, _≤_};
-ghost use lib.ListN.{length};
+ghost use Prim.Native.Nat.{ℕ};
 ghost use Rattle.messages.specs.Messages.{Msg, between};
 ghost use Rattle.rules.specs.Step.{empty-row};
 ghost use Rattle.rows.specs.Meaning.{record-of};
@@ -12,6 +12,7 @@ ghost use Rattle.tables.specs.Meaning.{ring-of};
 ghost use Rattle.ring.specs.Meaning.{kind-of, shown-of, shown-answer, Gives};
 use crate::shown::Shown;
 use crate::shown::State;
+use messages::message::Message;
 use rows::record::Record;
 use rows::row::Row;
 use tables::liars::is_named;
@@ -25,6 +26,13 @@ pub fn has_party(ring: &Ring, party: u64) -> bool
     ensures { λ r. ⌜ r ≡ between 1 (now (ring .entry) .n) party ⌝ }
 {
     1 <= party && party <= ring.n as u64
+}
+
+// Whether a message is between parties of the ring.
+pub fn has_both<V: Value>(ring: &Ring, m: &Message<V>) -> bool
+    ensures { λ r. ⌜ r ≡ (between 1 (now (ring .entry) .n) (now (m .entry) .from) && between 1 (now (ring .entry) .n) (now (m .entry) .to)) ⌝ }
+{
+    has_party(ring, m.from as u64) && has_party(ring, m.to as u64)
 }
 
 // What is shown of an honest party.

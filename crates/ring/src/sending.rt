@@ -6,7 +6,7 @@ ghost use Rattle.agreement.specs.Runs.{call, send as sending};
 ghost use Rattle.tables.specs.Refusals.{refusal-number};
 ghost use Rattle.tables.specs.Meaning.{ring-of, answer-of};
 ghost use Rattle.ring.specs.Meaning.{kind-of, Gives};
-use crate::lookup::has_party;
+use crate::lookup::has_both;
 use messages::message::Message;
 use rows::record::Record;
 use rows::row::Row;
@@ -36,7 +36,7 @@ pub fn send<V: Value, W: Wire<V>>(ring: &Ring, records: &[Record<V>], rows: &[Ro
     if !tables_in_order(ring, records, rows) {
         return Err(Refusal::Tables);
     }
-    if !has_party(ring, m.from as u64) || !has_party(ring, m.to as u64) {
+    if !has_both(ring, m) {
         return Err(Refusal::NoParty);
     }
     if !is_named(ring.faulty, m.from) {
