@@ -1,1 +1,6 @@
 pub mod votes;
+pub mod dones;
+pub mod entry;
+pub mod aborts;
+pub mod requests;
+pub mod proposals;

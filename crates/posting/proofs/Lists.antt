@@ -2,7 +2,7 @@
 use mathlib.Core.Path.{_≡_, refl, sym, ap, subst, _∙_}
 use mathlib.Core.Bool.{Bool, true, false, cond, _&&_}
 use mathlib.Core.List.{List, [], _∷_, _++_, append-assoc}
-use Prim.Native.Nat.{ℕ, zero, suc, _+_, _-_, _≤_, _<_}
+use Prim.Native.Nat.{ℕ, zero, suc, _+_, _-_, _^_, _≤_, _<_}
 use native.Mathlib.Omega.{arith}
 use native.Mathlib.Numerals.{add-one}
 use borrow.Author.Tests.{lt-ltb}
@@ -15,11 +15,11 @@ use Rattle.wires.specs.Wire.{may-post, posted, room-left}
 use Rattle.rules.specs.Posts.{to-each}
 use Rattle.posting.specs.Posting.{Takes, Posted}
 
-all-left : {X : Type 0} (P : X → Type 0) (xs ys : List X) → All P (xs ++ ys) → All P xs
+pub all-left : {X : Type 0} (P : X → Type 0) (xs ys : List X) → All P (xs ++ ys) → All P xs
 all-left P [] ys a = tt
 all-left P (x ∷ xs) ys a = (a .0, all-left P xs ys (a .1))
 
-all-right : {X : Type 0} (P : X → Type 0) (xs ys : List X) → All P (xs ++ ys) → All P ys
+pub all-right : {X : Type 0} (P : X → Type 0) (xs ys : List X) → All P (xs ++ ys) → All P ys
 all-right P [] ys a = a
 all-right P (x ∷ xs) ys a = all-right P xs ys (a .1)
 
@@ -27,16 +27,16 @@ module _ (valid : List ℕ → Bool) (width : ℕ) where
   -- the first part of posts that a wire takes
   pub takes-first : (capacity : ℕ) (old xs ys : List Msg) → Takes valid width capacity old (xs ++ ys) → Takes valid width capacity old xs
   takes-first capacity old xs ys t =
-    record { ranged = all-left _ xs ys (t .ranged); room = omega (arith, t .room, length-append xs ys) }
+    record { ranged = all-left _ xs ys (t .ranged); room = omega (arith, t .room, length-append xs ys); few = omega (arith, t .few, length-append xs ys) }
 
   -- and the rest, once the first part is posted
   pub takes-rest : (capacity capacity′ : ℕ) (old mid xs ys : List Msg) → Takes valid width capacity old (xs ++ ys) → mid ≡ old ++ xs → capacity′ ≡ capacity → Takes valid width capacity′ mid ys
   takes-rest capacity capacity′ old mid xs ys t e k =
-    record { ranged = all-right _ xs ys (t .ranged); room = omega (arith, t .room, length-append xs ys, ap length e ∙ length-append old xs, k) }
+    record { ranged = all-right _ xs ys (t .ranged); room = omega (arith, t .room, length-append xs ys, ap length e ∙ length-append old xs, k); few = omega (arith, t .few, length-append xs ys) }
 
   -- nothing more is always taken, after what is taken
   pub takes-none : (capacity : ℕ) (old xs : List Msg) → Takes valid width capacity old xs → Takes valid width capacity old []
-  takes-none capacity old xs t = record { ranged = tt; room = omega (arith, t .room) }
+  takes-none capacity old xs t = record { ranged = tt; room = omega (arith, t .room); few = omega arith }
 
   -- a post that is taken stands at the end
   pub post-taken : (capacity : ℕ) (old new : List Msg) (m : Msg) → Takes valid width capacity old (m ∷ []) → new ≡ posted valid width capacity old m → new ≡ old ++ m ∷ []
@@ -53,6 +53,21 @@ posted-both a b c k k′ k″ r s xs ys p q =
       answer = omega (arith, p .answer, q .answer, length-append xs ys);
       kept = q .kept ∙ p .kept
     }
+
+-- and in three
+pub posted-three : (a b c d : List Msg) (k k1 k2 k3 r s t : ℕ) (xs ys zs : List Msg) → Posted a b k k1 r xs → Posted b c k1 k2 s ys → Posted c d k2 k3 t zs →
+  Posted a d k k3 ((r + s) + t) (xs ++ (ys ++ zs))
+posted-three a b c d k k1 k2 k3 r s t xs ys zs p q o =
+    let u = posted-both a b d k k1 k3 r (s + t) xs (ys ++ zs) p (posted-both b c d k1 k2 k3 s t ys zs q o) in
+    record { list = u .list; answer = omega (arith, u .answer); kept = u .kept }
+
+-- the number of posts in parts is no larger than a number holds
+pub two-fit : {valid : List ℕ → Bool} {width capacity : ℕ} {old : List Msg} (xs ys : List Msg) (r s : ℕ) → Takes valid width capacity old (xs ++ ys) → r ≡ length xs → s ≡ length ys → r + s < 2 ^ 64
+two-fit xs ys r s t e f = omega (arith, t .few, length-append xs ys)
+
+pub three-fit : {valid : List ℕ → Bool} {width capacity : ℕ} {old : List Msg} (xs ys zs : List Msg) (r s q : ℕ) → Takes valid width capacity old (xs ++ (ys ++ zs)) →
+  r ≡ length xs → s ≡ length ys → q ≡ length zs → (r + s) + q < 2 ^ 64
+three-fit xs ys zs r s q t e f h = omega (arith, t .few, length-append xs (ys ++ zs), length-append ys zs)
 
 pub posted-none : (a b : List Msg) (k k′ r : ℕ) → b ≡ a → k′ ≡ k → r ≡ 0 → Posted a b k k′ r []
 posted-none a b k k′ r e h z = record { list = e ∙ sym (append-nil a); answer = z; kept = h }
@@ -120,3 +135,34 @@ takes-as {valid} {width} {capacity} {old} who what what′ n e t = subst (λ f. 
 pub posted-as : {old new : List Msg} {k k′ r : ℕ} (who : ℕ → Bool) (what what′ : ℕ → Msg) (n : ℕ) → what′ ≡ what →
   Posted old new k k′ r (to-each who what′ n) → Posted old new k k′ r (to-each who what n)
 posted-as {old} {new} {k} {k′} {r} who what what′ n e p = subst (λ f. Posted old new k k′ r (to-each who f n)) e p
+
+-- one message that goes where a test is passed
+pub takes-if : {valid : List ℕ → Bool} {width capacity : ℕ} {old : List Msg} (b : Bool) (x y : Msg) → b ≡ true → y ≡ x →
+  Takes valid width capacity old (cond b (x ∷ []) []) → Takes valid width capacity old (y ∷ [])
+takes-if {valid} {width} {capacity} {old} b x y h e t =
+    subst (λ z. Takes valid width capacity old (z ∷ [])) (sym e) (subst (λ c. Takes valid width capacity old (cond c (x ∷ []) [])) h t)
+
+pub posted-if : {old new : List Msg} {k k′ r : ℕ} (b : Bool) (x y : Msg) → b ≡ true → y ≡ x → Posted old new k k′ r (y ∷ []) → Posted old new k k′ r (cond b (x ∷ []) [])
+posted-if {old} {new} {k} {k′} {r} b x y h e q =
+    subst (λ c. Posted old new k k′ r (cond c (x ∷ []) [])) (sym h) (subst (λ z. Posted old new k k′ r (z ∷ [])) e q)
+
+pub posted-if-not : {old : List Msg} {k : ℕ} (b : Bool) (x : Msg) → b ≡ false → Posted old old k k 0 (cond b (x ∷ []) [])
+posted-if-not {old} {k} b x h = subst (λ c. Posted old old k k 0 (cond c (x ∷ []) [])) (sym h) (posted-none old old k k 0 refl refl refl)
+
+-- the same list by another name
+pub takes-list : {valid : List ℕ → Bool} {width capacity : ℕ} {old : List Msg} (xs ys : List Msg) → xs ≡ ys → Takes valid width capacity old xs → Takes valid width capacity old ys
+takes-list {valid} {width} {capacity} {old} xs ys e = subst (Takes valid width capacity old) e
+
+pub posted-list : {old new : List Msg} {k k′ r : ℕ} (xs ys : List Msg) → xs ≡ ys → Posted old new k k′ r xs → Posted old new k k′ r ys
+posted-list {old} {new} {k} {k′} {r} xs ys e = subst (Posted old new k k′ r) e
+
+-- posts in four parts
+pub posted-four : (a b c d e : List Msg) (k k1 k2 k3 k4 r s t u : ℕ) (xs ys zs us : List Msg) → Posted a b k k1 r xs → Posted b c k1 k2 s ys → Posted c d k2 k3 t zs → Posted d e k3 k4 u us →
+  Posted a e k k4 (((r + s) + t) + u) (xs ++ (ys ++ (zs ++ us)))
+posted-four a b c d e k k1 k2 k3 k4 r s t u xs ys zs us p q o n =
+    let z = posted-both a b e k k1 k4 r ((s + t) + u) xs (ys ++ (zs ++ us)) p (posted-three b c d e k1 k2 k3 k4 s t u ys zs us q o n) in
+    record { list = z .list; answer = omega (arith, z .answer); kept = z .kept }
+
+pub four-fit : {valid : List ℕ → Bool} {width capacity : ℕ} {old : List Msg} (xs ys zs us : List Msg) (r s q u : ℕ) → Takes valid width capacity old (xs ++ (ys ++ (zs ++ us))) →
+  r ≡ length xs → s ≡ length ys → q ≡ length zs → u ≡ length us → ((r + s) + q) + u < 2 ^ 64
+four-fit xs ys zs us r s q u t e f h i = omega (arith, t .few, length-append xs (ys ++ (zs ++ us)), length-append ys (zs ++ us), length-append zs us)

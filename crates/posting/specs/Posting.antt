@@ -1,5 +1,5 @@
 -- Posts that a wire takes, and what they leave.
-use Prim.Native.Nat.{ℕ, _+_, _≤_}
+use Prim.Native.Nat.{ℕ, _+_, _^_, _≤_, _<_}
 use mathlib.Core.Path.{_≡_}
 use mathlib.Core.Bool.{Bool, true}
 use mathlib.Core.List.{List, _++_}
@@ -11,10 +11,11 @@ use Rattle.rules.specs.Party.{Row, Party, Step}
 use Rattle.posting.specs.declared.audience.Audience.{Audience}
 use Rattle.posting.specs.declared.audience.Audience.the-variants.{All as Everyone, Joined}
 
--- a wire with this capacity and list takes these posts: each is in range, and there is room for all
+-- a wire with this capacity and list takes these posts: each is in range, there is room for all, and a number counts them
 pub record Takes (valid : List ℕ → Bool) (width capacity : ℕ) (waiting posts : List Msg) : Type 0 where
   pub ranged : All (λ m. in-range valid width m ≡ true) posts
   pub room : length waiting + length posts ≤ capacity
+  pub few : length posts < 2 ^ 64
 
 -- the posts stand at the end of the list, the answer is their number, and the capacity is as it was
 pub record Posted (before after : List Msg) (capacity capacity′ number : ℕ) (posts : List Msg) : Type 0 where
