@@ -15,7 +15,7 @@ use Rattle.rules.specs.Party.{Party}
 use Rattle.agreement.specs.Ring.{Kind, Ring, Shown, is-faulty, in-ring, room, step-room, tables-fit, shown, shown-party}
 use Rattle.agreement.specs.Calls.{Answer, said, told, refused, Outcome, refuse, with-wire, deliver, bring-found, lose-found}
 use Rattle.agreement.specs.Runs.{Call, lose, send, show, call, obey}
-use Rattle.ring.specs.Meaning.{Gives}
+use Rattle.turns.specs.Meaning.{Gives}
 
 -- ## Numbers of parties
 pub between-parts : (low high x : ℕ) → true ≡ between low high x → (low ≤ x) × (x ≤ high)

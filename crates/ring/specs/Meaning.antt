@@ -1,22 +1,16 @@
--- What the code's answers mean, and what a call gives.
+-- What show's answer means.
 use Prim.Native.Nat.{ℕ}
-use mathlib.Core.Path.{_≡_}
-use mathlib.Core.Bool.{Bool}
 use mathlib.Core.List.{List}
 use Rattle.std.specs.declared.result.Result.{Result}
 use Rattle.std.specs.declared.result.Result.the-variants.{Ok, Err}
 use Rattle.agreement.specs.Ring as model
 use Rattle.agreement.specs.Ring.{is-faulty, is-open, is-decided}
-use Rattle.agreement.specs.Calls.{Answer, told, refused, Outcome}
+use Rattle.agreement.specs.Calls.{Answer, told, refused}
 use Rattle.tables.specs.declared.refusal.Refusal.{Refusal}
 use Rattle.tables.specs.Refusals.{refusal-number}
 use Rattle.ring.specs.declared.shown.State.{State}
 use Rattle.ring.specs.declared.shown.State.the-variants.{Faulty, Open, Decided}
 use Rattle.ring.specs.declared.shown.Shown.{Shown}
-
--- a kind of value, by its ghost members
-abbrev pub kind-of : ℕ → (List ℕ → Bool) → (List ℕ → Bool) → model.Kind
-kind-of width valid allows = record { width = width; valid = valid; allows = allows }
 
 abbrev pub state-of : State → model.State
 state-of Faulty = is-faulty
@@ -31,8 +25,3 @@ module _ {V : Type 0} (bytes : V → List ℕ) where
   abbrev pub shown-answer : Result (Shown V) Refusal → Answer
   shown-answer (Ok s) = told (shown-of s)
   shown-answer (Err refusal) = refused (refusal-number refusal)
-
--- a call gives the answer and leaves the ring that the rules say
-pub record Gives (o : Outcome) (a : Answer) (s : model.Ring) : Type 0 where
-  pub answer : a ≡ o .answer
-  pub after : s ≡ o .after

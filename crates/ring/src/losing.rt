@@ -2,7 +2,7 @@
 ghost use mathlib.Core.Path.{_≡_};
 ghost use Rattle.agreement.specs.Runs.{call, lose as losing};
 ghost use Rattle.tables.specs.Meaning.{ring-of, answer-of};
-ghost use Rattle.ring.specs.Meaning.{kind-of, Gives};
+ghost use Rattle.turns.specs.Meaning.{kind-of, Gives};
 use rows::record::Record;
 use rows::row::Row;
 use tables::refusal::Refusal;

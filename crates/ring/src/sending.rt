@@ -5,7 +5,7 @@ ghost use Rattle.wires.specs.Wire.{fault-number};
 ghost use Rattle.agreement.specs.Runs.{call, send as sending};
 ghost use Rattle.tables.specs.Refusals.{refusal-number};
 ghost use Rattle.tables.specs.Meaning.{ring-of, answer-of};
-ghost use Rattle.ring.specs.Meaning.{kind-of, Gives};
+ghost use Rattle.turns.specs.Meaning.{kind-of, Gives};
 use crate::lookup::has_both;
 use messages::message::Message;
 use rows::record::Record;

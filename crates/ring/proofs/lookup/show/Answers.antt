@@ -8,7 +8,8 @@ use Rattle.agreement.specs.Runs.{show}
 use Rattle.tables.specs.Meaning.{ring-of}
 use Rattle.tables.proofs.Fitting.{records-enough}
 use Rattle.tables.proofs.Parts.{party-read}
-use Rattle.ring.specs.Meaning.{kind-of, shown-of}
+use Rattle.turns.specs.Meaning.{kind-of}
+use Rattle.ring.specs.Meaning.{shown-of}
 use Rattle.ring.proofs.Obeyed.{between-parts, unfit, obeyed, show-nobody, show-one, shown-faulty, shown-honest}
 use Rattle.ring.proofs.lookup.show.Needs as need
 

@@ -4,7 +4,7 @@ use Rattle.wires.specs.Wire.{fault-number}
 use Rattle.agreement.specs.Calls.{said, refused}
 use Rattle.agreement.specs.Runs.{lose}
 use Rattle.tables.specs.Meaning.{ring-of}
-use Rattle.ring.specs.Meaning.{kind-of}
+use Rattle.turns.specs.Meaning.{kind-of}
 use Rattle.ring.proofs.Obeyed.{rewired, unfit, obeyed, lose-some, lose-none}
 use Rattle.ring.proofs.losing.lose.Needs as need
 

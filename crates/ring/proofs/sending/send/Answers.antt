@@ -7,7 +7,7 @@ use Rattle.agreement.specs.Calls.{said, refused}
 use Rattle.agreement.specs.Runs.{send}
 use Rattle.tables.specs.Refusals.{refusal-number}
 use Rattle.tables.specs.Meaning.{ring-of}
-use Rattle.ring.specs.Meaning.{kind-of}
+use Rattle.turns.specs.Meaning.{kind-of}
 use Rattle.ring.proofs.Obeyed.{rewired, both-known, unfit, obeyed, send-nobody, send-honest, send-tried, answered}
 use Rattle.ring.proofs.sending.send.Needs as need
 
