@@ -4,3 +4,5 @@ pub mod entry;
 pub mod aborts;
 pub mod requests;
 pub mod proposals;
+pub mod suggests;
+pub mod step;
