@@ -1,2 +1,3 @@
 pub mod Taking
 pub mod Turning
+pub mod Fresh

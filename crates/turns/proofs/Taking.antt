@@ -4,11 +4,12 @@ use mathlib.Core.Path.{_≡_, refl, sym, ap, _∙_}
 use mathlib.Core.Bool.{Bool, true, false, cond}
 use mathlib.Core.List.{List, [], _∷_, _++_}
 use native.Mathlib.Omega.{arith}
+use lib.Dec.{leb}
 use lib.ListN.{length}
 use Rattle.std.specs.shelf.Lists.{All}
-use Rattle.std.proofs.shelf.Tests.{and-from}
+use Rattle.std.proofs.shelf.Tests.{and-parts, leb-true}
 use Rattle.std.proofs.shelf.Lists.{length-append}
-use Rattle.messages.specs.Messages.{Msg, in-range, last-view}
+use Rattle.messages.specs.Messages.{Msg, between, in-range, last-view}
 use Rattle.rules.specs.Party.{Setting, Party}
 use Rattle.rules.specs.Posts.{to-each, view-msg, proof-msg}
 use Rattle.rules.specs.Step.{step, on-timer, enter, newcomer, empty-row}
@@ -17,6 +18,13 @@ use Rattle.rules.specs.Facts.{Seated, Fits, Proper, Own-post, values-fit}
 use Rattle.rules.proofs.Few.{posts-few}
 use Rattle.rules.proofs.Ranges.{posts-in-range}
 use Rattle.posting.specs.Posting.{Takes}
+
+-- a message in range has one of the eleven kinds
+pub kind-known : (valid : List ℕ → Bool) (width : ℕ) (m : Msg) → in-range valid width m ≡ true → (1 ≤ m .kind) × (m .kind ≤ 11)
+kind-known valid width m e =
+    let b = and-parts (between 1 11 (m .kind)) _ e .0 in
+    let p = and-parts (leb 1 (m .kind)) (leb (m .kind) 11) b in
+    (leb-true 1 (m .kind) (p .0), leb-true (m .kind) 11 (p .1))
 
 module _ (valid : List ℕ → Bool) (g : Setting) (me : ℕ) (seated : Seated valid g me) where
   own-ranged : (ms : List Msg) → All (Own-post valid g me) ms → All (λ m. in-range valid (g .width) m ≡ true) ms

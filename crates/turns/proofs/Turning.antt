@@ -1,13 +1,28 @@
 -- A party's turn, as the tables and the wire show it.
-use Prim.Native.Nat.{ℕ, _+_}
-use mathlib.Core.Path.{_≡_, refl, sym, ap, _∙_}
-use mathlib.Core.Bool.{Bool}
+use Prim.Native.Nat.{ℕ, _+_, _-_, _*_, _<_, _≤_}
+use mathlib.Core.Path.{_≡_, refl, sym, ap, subst, _∙_}
+use mathlib.Core.Bool.{Bool, true, false}
 use mathlib.Core.List.{List, _++_}
-use lib.ListN.{length}
+use native.Mathlib.Omega.{arith}
+use borrow.Rule.Slice.PartMut.{putMid}
+use lib.ListN.{length, getD, set, take, drop, replicate}
+use Rattle.std.proofs.shelf.Lists.{length-append, length-take-le, length-drop}
 use Rattle.messages.specs.Messages.{Msg}
 use Rattle.rules.specs.Counting.{upd}
 use Rattle.rules.specs.Party.{Party, Step}
-use Rattle.posting.specs.Posting.{Does}
+use Rattle.messages.specs.Messages.{in-range, last-view}
+use Rattle.rules.specs.Bounds.{party-fits}
+use Rattle.rules.specs.Facts.{Seated, Fits, Proper}
+use Rattle.rules.specs.Party.{Setting}
+use Rattle.rules.specs.Step.{step, on-timer}
+use Rattle.rows.specs.Meaning.{party-of}
+use Rattle.rows.specs.declared.record.Record.{Record}
+use Rattle.rows.specs.declared.row.Row.{Row}
+use Rattle.posting.specs.Posting.{Takes, Does}
+use Rattle.tables.specs.Meaning.{parties-of}
+use Rattle.tables.proofs.Parts.{party-read, party-written, part-length}
+use Rattle.tables.proofs.Typed.{typed-party}
+use Rattle.turns.proofs.Taking.{takes-timer, takes-step}
 use Rattle.agreement.specs.Ring.{Ring}
 use Rattle.agreement.specs.Calls.{said, stepped}
 use Rattle.turns.specs.Meaning.{Gives}
@@ -30,3 +45,55 @@ module _ (s : Ring) where
       after = changed-same parties (upd (s .parties) i (t .after)) records (s .records) rows (s .rows) w (s .wire ++ t .posts) c (s .capacity)
         (h ∙ ap (upd (s .parties) i) (d .party ∙ ap (λ x. x .after) (sym e))) a b (d .posts .list ∙ ap (λ x. s .wire ++ x .posts) (sym e)) (d .posts .kept)
     }
+
+-- a part written leaves the length
+pub part-kept : {X : Type 0} (b n : ℕ) (xs new : List X) → length new ≡ n → b + n ≤ length xs → length (putMid b ((b + n) - b) xs new) ≡ length xs
+part-kept b n xs new e h =
+    let k : (b + n) - b ≡ n = omega arith in
+    let l1 = length-append (take b xs) (new ++ drop ((b + n) - b) (drop b xs)) in
+    let l2 = length-append new (drop ((b + n) - b) (drop b xs)) in
+    let l3 = length-take-le b xs (omega (arith, h)) in
+    let l4 = length-drop ((b + n) - b) (drop b xs) in
+    let l5 = length-drop b xs in
+    omega (arith, k, l1, l2, l3, l4, l5, e, h)
+
+-- ## A party's own part of the tables
+module _ {V : Type 0} (bytes : V → List ℕ) (n party b : ℕ) (records : List (Record V)) (rows : List (Row V)) (d : Record V)
+    (low : 1 ≤ party) (high : party ≤ n) (many : n ≤ length records) (wide : n * n ≤ length rows) (is : d ≡ getD records (party - 1) d)
+    (value : b ≡ (party - 1) * n) (within : b + n ≤ n * n) where
+  abbrev own-part : List (Row V)
+  own-part = take ((b + n) - b) (drop b rows)
+
+  abbrev mine : Party
+  mine = party-of bytes (getD records (party - 1) d) own-part
+
+  pub part-whole : length own-part ≡ n
+  part-whole = part-length b n rows (omega (arith, within, wide))
+
+  pub part-read : parties-of bytes n records rows party ≡ mine
+  part-read = party-read bytes n party b records rows (getD records (party - 1) d) low (omega (arith, high, many)) (ap (λ x. getD records (party - 1) x) is) value
+
+  pub part-written : (r : Record V) (new : List (Row V)) → length new ≡ length own-part →
+    parties-of bytes n (set records (party - 1) r) (putMid b ((b + n) - b) rows new) ≡ upd (parties-of bytes n records rows) party (party-of bytes r new)
+  part-written r new e = party-written bytes n party b records rows r new low high many wide value (e ∙ part-whole)
+
+  module _ (valid : List ℕ → Bool) (g : Setting) (size : g .n ≡ n) (most : n ≤ 64) (blank : valid (replicate (g .width) 0) ≡ true)
+      (sized : (v : V) → length (bytes v) ≡ g .width) (sound : (v : V) → valid (bytes v) ≡ true) where
+    pub part-seated : Seated valid g party
+    part-seated = record { blank = blank; size = omega (arith, size, most); low = low; high = omega (arith, high, size) }
+
+    part-fits : party-fits n (parties-of bytes n records rows party) ≡ true → Fits valid g mine
+    part-fits fit =
+      record {
+        numbers = ap (λ k. party-fits k mine) size ∙ (ap (party-fits n) (sym part-read) ∙ fit);
+        values = typed-party bytes valid (g .width) sized sound (g .n) (getD records (party - 1) d) own-part
+      }
+
+    module _ (capacity : ℕ) (w : List Msg) (fit : party-fits n (parties-of bytes n records rows party) ≡ true) (room : length w + (3 * n + 8) ≤ capacity) where
+      pub part-timer : parties-of bytes n records rows party .rec .view < last-view → Takes valid (g .width) capacity w (on-timer g party mine .posts)
+      part-timer early =
+        takes-timer valid g party part-seated mine capacity w (part-fits fit) (subst (λ p. p .rec .view < last-view) part-read early) (omega (arith, room, size))
+
+      pub part-step : (m : Msg) → in-range valid (g .width) m ≡ true → 1 ≤ m .from → m .from ≤ n → Takes valid (g .width) capacity w (step g party mine m .posts)
+      part-step m ranged first last =
+        takes-step valid g party part-seated mine capacity w (part-fits fit) m (record { range = ranged; low = first; high = omega (arith, last, size) }) (omega (arith, room, size))

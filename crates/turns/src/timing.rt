@@ -22,6 +22,7 @@ use wires::wire::Wire;
 // The timer of an honest party below the last view, with room for what it may post.
 pub fn time_out<V: Value, W: Wire<V>>(ring: &Ring, records: &mut [Record<V>], rows: &mut [Row<V>], wire: &mut W, party: u8) -> usize
     requires fit { ⌜ true ≡ tables-fit (ring-of bytes (now ring) (now records) (now rows) [] 0) ⌝ }
+    requires places { ⌜ (now ring .n ≤ length (now records)) × (now ring .n * now ring .n ≤ length (now rows)) ⌝ }
     requires honest { ⌜ (1 ≤ party) × (party ≤ now ring .n) × (false ≡ named (now ring .faulty) party) ⌝ }
     requires early { ⌜ parties-of bytes (now ring .n) (now records) (now rows) party .rec .view < last-view ⌝ }
     requires room { ⌜ length (waiting (now wire)) + (3 * now ring .n + 8) ≤ capacity (now wire) ⌝ }
