@@ -6,3 +6,4 @@ pub mod requests;
 pub mod proposals;
 pub mod suggests;
 pub mod step;
+pub mod start;

@@ -1,14 +1,19 @@
 // One step of a party: a message, or its timer.
 ghost use mathlib.Core.Path.{_≡_};
-ghost use Prim.Native.Nat.{_≤_};
+ghost use mathlib.Core.Bool.{true};
+ghost use Prim.Native.Nat.{_+_, _≤_, _<_};
 ghost use lib.ListN.{length};
+ghost use Rattle.messages.specs.Messages.{last-view};
 ghost use Rattle.messages.specs.Meaning.{message};
+ghost use Rattle.rules.specs.Bounds.{party-fits};
+ghost use Rattle.rules.specs.Facts.{Proper, most-posts};
 ghost use Rattle.rules.specs.Party.{nothing, and-then};
-ghost use Rattle.rules.specs.Step.{react, step as stepped, on-vote, wake};
+ghost use Rattle.rules.specs.Step.{react, step as stepped, on-vote, wake, on-timer};
 ghost use Rattle.rows.specs.Meaning.{setting-of, party-of, proposal-of};
 ghost use Rattle.posting.specs.Posting.{Takes, Does};
 use checks::heed::heeds;
 use crate::aborts::on_abort;
+use crate::aborts::on_time_out;
 use crate::dones::on_done;
 use crate::dones::on_lock;
 use crate::proposals::on_proof;
@@ -55,7 +60,7 @@ fn by_kind<V: Value, W: Wire<V>>(seat: Seat, own: &mut Record<V>, rows: &mut [Ro
 }
 
 // Takes a message in, or ignores it, on a wire that takes what it posts.
-pub fn take_in<V: Value, W: Wire<V>>(seat: Seat, own: &mut Record<V>, rows: &mut [Row<V>], w: &mut W, m: &Message<V>) -> usize
+fn take_in<V: Value, W: Wire<V>>(seat: Seat, own: &mut Record<V>, rows: &mut [Row<V>], w: &mut W, m: &Message<V>) -> usize
     requires whole { ⌜ (length (now rows) ≡ seat .n) × (1 ≤ now m .from) × (now m .from ≤ seat .n) × (1 ≤ now m .kind) × (now m .kind ≤ 11) ⌝ }
     requires taken { ⌜ Takes valid width (capacity (now w)) (waiting (now w)) (stepped (setting-of width allows seat) (seat .me) (party-of bytes (now own) (now rows)) (message bytes (now m)) .posts) ⌝ }
     ensures { λ r. ⌜ Does (stepped (setting-of width allows seat) (seat .me) (party-of bytes (now (own .entry)) (now (rows .entry))) (message bytes (now (m .entry)))) (party-of bytes (now (own .exit)) (now (rows .exit))) (waiting (now (w .entry))) (waiting (now (w .exit))) (capacity (now (w .entry))) (capacity (now (w .exit))) r ⌝ }
@@ -65,4 +70,29 @@ pub fn take_in<V: Value, W: Wire<V>>(seat: Seat, own: &mut Record<V>, rows: &mut
     } else {
         0
     }
+}
+
+// One step with a message: the party and the wire are as the rules say, and what the party keeps stays within its
+// bounds. The answer is the number of posts.
+pub fn step<V: Value, W: Wire<V>>(seat: Seat, own: &mut Record<V>, rows: &mut [Row<V>], w: &mut W, m: &Message<V>) -> usize
+    requires whole { ⌜ length (now rows) ≡ seat .n ⌝ }
+    requires fits { ⌜ party-fits (seat .n) (party-of bytes (now own) (now rows)) ≡ true ⌝ }
+    requires proper { ⌜ Proper valid (setting-of width allows seat) (message bytes (now m)) ⌝ }
+    requires room { ⌜ length (waiting (now w)) + most-posts (seat .n) ≤ capacity (now w) ⌝ }
+    ensures step { λ r. ⌜ Does (stepped (setting-of width allows seat) (seat .me) (party-of bytes (now (own .entry)) (now (rows .entry))) (message bytes (now (m .entry)))) (party-of bytes (now (own .exit)) (now (rows .exit))) (waiting (now (w .entry))) (waiting (now (w .exit))) (capacity (now (w .entry))) (capacity (now (w .exit))) r ⌝ }
+    ensures fits { λ _. ⌜ party-fits (seat .n) (party-of bytes (now (own .exit)) (now (rows .exit))) ≡ true ⌝ }
+{
+    take_in(seat, own, rows, w, m)
+}
+
+// One step of the timer, in any view but the last.
+pub fn timer<V: Value, W: Wire<V>>(seat: Seat, own: &mut Record<V>, rows: &mut [Row<V>], w: &mut W) -> usize
+    requires whole { ⌜ length (now rows) ≡ seat .n ⌝ }
+    requires fits { ⌜ party-fits (seat .n) (party-of bytes (now own) (now rows)) ≡ true ⌝ }
+    requires early { ⌜ now own .view < last-view ⌝ }
+    requires room { ⌜ length (waiting (now w)) + most-posts (seat .n) ≤ capacity (now w) ⌝ }
+    ensures step { λ r. ⌜ Does (on-timer (setting-of width allows seat) (seat .me) (party-of bytes (now (own .entry)) (now (rows .entry)))) (party-of bytes (now (own .exit)) (now (rows .exit))) (waiting (now (w .entry))) (waiting (now (w .exit))) (capacity (now (w .entry))) (capacity (now (w .exit))) r ⌝ }
+    ensures fits { λ _. ⌜ party-fits (seat .n) (party-of bytes (now (own .exit)) (now (rows .exit))) ≡ true ⌝ }
+{
+    on_time_out(seat, own, rows, w)
 }
