@@ -1,21 +1,24 @@
 -- A call against the rules, case by case.
-use Prim.Native.Nat.{ℕ, zero, suc, _+_, _<_, _≤_}
+use Prim.Native.Nat.{ℕ, zero, suc, _+_, _-_, _*_, _<_, _≤_}
+use native.Mathlib.Omega.{arith}
 use mathlib.Core.Path.{_≡_, refl, sym, ap, subst, _∙_}
 use mathlib.Core.Bool.{Bool, true, false, cond, _&&_}
 use mathlib.Core.List.{List, [], _∷_, _++_}
 use lib.Dec.{ltb, leb}
-use lib.ListN.{replicate}
+use lib.ListN.{length, replicate}
 use Rattle.std.specs.shelf.Lists.{All}
 use Rattle.std.specs.declared.result.Result.{Result}
 use Rattle.std.specs.declared.result.Result.the-variants.{Ok, Err}
 use Rattle.std.proofs.shelf.Tests.{and-parts, leb-true}
-use Rattle.messages.specs.Messages.{Msg, between, in-range}
+use Rattle.messages.specs.Messages.{Msg, between, in-range, last-view}
 use Rattle.wires.specs.Wire.{looked, taken, post-answer, posted, room-left}
-use Rattle.rules.specs.Party.{Party}
-use Rattle.agreement.specs.Ring.{Kind, Ring, Shown, is-faulty, in-ring, room, step-room, tables-fit, shown, shown-party}
-use Rattle.agreement.specs.Calls.{Answer, said, told, refused, Outcome, refuse, with-wire, deliver, bring-found, lose-found}
-use Rattle.agreement.specs.Runs.{Call, lose, send, show, call, obey}
+use Rattle.rules.specs.Party.{Party, none}
+use Rattle.rules.specs.Step.{step, on-timer}
+use Rattle.agreement.specs.Ring.{Kind, Ring, Shown, setting, is-faulty, in-ring, room, step-room, tables-fit, shown, shown-party}
+use Rattle.agreement.specs.Calls.{Answer, said, told, refused, Outcome, refuse, with-wire, stepped, deliver, bring-found, lose-found}
+use Rattle.agreement.specs.Runs.{Call, lose, send, timer, show, call, obey}
 use Rattle.turns.specs.Meaning.{Gives}
+use Rattle.ring.specs.Turns.{timed}
 
 -- ## Numbers of parties
 pub between-parts : (low high x : ℕ) → true ≡ between low high x → (low ≤ x) × (x ≤ high)
@@ -183,3 +186,86 @@ module _ (k : Kind) (s : Ring) where
       bring-all a s′ e h g =
         gives (bring-found k s (looked (s .wire) i) w) (deliver k s m w) a s′
           (ap (λ r. bring-found k s r w) there ∙ (ap (λ b. brought b enough) (sym e) ∙ ap (brought true) (sym h))) (g .answer) (g .after)
+
+  -- ## What a message does at its receiver
+  module _ (m : Msg) where
+    abbrev at-honest : List Msg → Outcome
+    at-honest w = stepped s (m .to) w (step (setting k s) (m .to) (s .parties (m .to)) m)
+
+    abbrev at-faulty : List Msg → Outcome
+    at-faulty w = record { after = with-wire s w; answer = said 0; posted = []; lost = [] }
+
+    pub reach-faulty : true ≡ s .faulty (m .to) → Gives (deliver k s m (s .wire)) (said 0) s
+    reach-faulty e =
+      gives (deliver k s m (s .wire)) (at-faulty (s .wire)) (said 0) s (ap (λ b. cond b (at-faulty (s .wire)) (at-honest (s .wire))) (sym e)) refl refl
+
+    pub reach-honest : (a : Answer) (s′ : Ring) → false ≡ s .faulty (m .to) → Gives (at-honest (s .wire)) a s′ → Gives (deliver k s m (s .wire)) a s′
+    reach-honest a s′ e g =
+      gives (deliver k s m (s .wire)) (at-honest (s .wire)) a s′ (ap (λ b. cond b (at-faulty (s .wire)) (at-honest (s .wire))) (sym e)) (g .answer) (g .after)
+
+    -- after the message was taken out
+    pub reach-after : (w : List Msg) (c : ℕ) (a : Answer) (s′ : Ring) → c ≡ s .capacity → Gives (deliver k (rewired s w c) m w) a s′ → Gives (deliver k s m w) a s′
+    reach-after w c a s′ e g = subst (λ d. Gives (deliver k (rewired s w d) m w) a s′) e g
+
+  -- ## Timer
+  module _ (i : ℕ) where
+    abbrev by-honesty : Bool → Bool → Outcome
+    by-honesty a b = cond a (cond b (refuse s 3) (timed k s i)) (refuse s 2)
+
+    pub timer-nobody : false ≡ in-ring s i → Gives (obey k s (timer i)) (refused 2) s
+    timer-nobody e = gives (obey k s (timer i)) (refuse s 2) (refused 2) s (ap (λ b. by-honesty b (s .faulty i)) (sym e)) refl refl
+
+    pub timer-faulty : true ≡ in-ring s i → true ≡ s .faulty i → Gives (obey k s (timer i)) (refused 3) s
+    timer-faulty e h =
+      gives (obey k s (timer i)) (refuse s 3) (refused 3) s (ap (λ b. by-honesty b (s .faulty i)) (sym e) ∙ ap (by-honesty true) (sym h)) refl refl
+
+    pub timer-honest : (a : Answer) (s′ : Ring) → true ≡ in-ring s i → false ≡ s .faulty i → Gives (timed k s i) a s′ → Gives (obey k s (timer i)) a s′
+    timer-honest a s′ e h g =
+      gives (obey k s (timer i)) (timed k s i) a s′ (ap (λ b. by-honesty b (s .faulty i)) (sym e) ∙ ap (by-honesty true) (sym h)) (g .answer) (g .after)
+
+    abbrev undecided : Bool
+    undecided = none (s .parties i .rec .decision)
+
+    abbrev early : Bool
+    early = ltb (s .parties i .rec .view) last-view
+
+    abbrev roomy : Bool
+    roomy = leb (step-room (s .n)) (room s)
+
+    abbrev ticked : Outcome
+    ticked = stepped s i (s .wire) (on-timer (setting k s) i (s .parties i))
+
+    abbrev by-state : Bool → Bool → Bool → Outcome
+    by-state a b c = cond a (cond b (cond c ticked (refuse s 10)) (refuse s 13)) (refuse s 12)
+
+    pub timed-decided : false ≡ undecided → Gives (timed k s i) (refused 12) s
+    timed-decided e = gives (timed k s i) (refuse s 12) (refused 12) s (ap (λ b. by-state b early roomy) (sym e)) refl refl
+
+    pub timed-late : true ≡ undecided → false ≡ early → Gives (timed k s i) (refused 13) s
+    timed-late e h =
+      gives (timed k s i) (refuse s 13) (refused 13) s (ap (λ b. by-state b early roomy) (sym e) ∙ ap (λ b. by-state true b roomy) (sym h)) refl refl
+
+    pub timed-crowded : true ≡ undecided → true ≡ early → false ≡ roomy → Gives (timed k s i) (refused 10) s
+    timed-crowded e h q =
+      gives (timed k s i) (refuse s 10) (refused 10) s
+        (ap (λ b. by-state b early roomy) (sym e) ∙ (ap (λ b. by-state true b roomy) (sym h) ∙ ap (by-state true true) (sym q))) refl refl
+
+    pub timed-all : (a : Answer) (s′ : Ring) → true ≡ undecided → true ≡ early → true ≡ roomy → Gives ticked a s′ → Gives (timed k s i) a s′
+    timed-all a s′ e h q g =
+      gives (timed k s i) ticked a s′
+        (ap (λ b. by-state b early roomy) (sym e) ∙ (ap (λ b. by-state true b roomy) (sym h) ∙ ap (by-state true true) (sym q))) (g .answer) (g .after)
+
+-- ## Room
+taken-length : (w : List Msg) (i : ℕ) → length (taken w i) ≤ length w
+taken-length [] i = omega arith
+taken-length (m ∷ w) zero = omega arith
+taken-length (m ∷ w) (suc i) = let h = taken-length w i in omega (arith, h)
+
+pub no-longer : (keep : Bool) (w : List Msg) (i : ℕ) → length (cond keep w (taken w i)) ≤ length w
+no-longer true w i = omega arith
+no-longer false w i = taken-length w i
+
+pub room-for-step : (s : Ring) (w : List Msg) (c : ℕ) → true ≡ leb (step-room (s .n)) (room s) → length w ≤ length (s .wire) → c ≡ s .capacity → length w + (3 * s .n + 8) ≤ c
+room-for-step s w c e h q =
+    let r : 3 * s .n + 8 ≤ s .capacity - length (s .wire) = leb-true (step-room (s .n)) (room s) (sym e) in
+    omega (arith, r, h, q)

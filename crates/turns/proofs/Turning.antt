@@ -5,24 +5,19 @@ use mathlib.Core.Bool.{Bool, true, false}
 use mathlib.Core.List.{List, _++_}
 use native.Mathlib.Omega.{arith}
 use borrow.Rule.Slice.PartMut.{putMid}
-use lib.ListN.{length, getD, set, take, drop, replicate}
+use lib.ListN.{length, getD, set, take, drop}
 use Rattle.std.proofs.shelf.Lists.{length-append, length-take-le, length-drop}
 use Rattle.messages.specs.Messages.{Msg}
 use Rattle.rules.specs.Counting.{upd}
 use Rattle.rules.specs.Party.{Party, Step}
-use Rattle.messages.specs.Messages.{in-range, last-view}
+use Rattle.messages.specs.Messages.{last-view}
 use Rattle.rules.specs.Bounds.{party-fits}
-use Rattle.rules.specs.Facts.{Seated, Fits, Proper}
-use Rattle.rules.specs.Party.{Setting}
-use Rattle.rules.specs.Step.{step, on-timer}
 use Rattle.rows.specs.Meaning.{party-of}
 use Rattle.rows.specs.declared.record.Record.{Record}
 use Rattle.rows.specs.declared.row.Row.{Row}
-use Rattle.posting.specs.Posting.{Takes, Does}
+use Rattle.posting.specs.Posting.{Does}
 use Rattle.tables.specs.Meaning.{parties-of}
 use Rattle.tables.proofs.Parts.{party-read, party-written, part-length}
-use Rattle.tables.proofs.Typed.{typed-party}
-use Rattle.turns.proofs.Taking.{takes-timer, takes-step}
 use Rattle.agreement.specs.Ring.{Ring}
 use Rattle.agreement.specs.Calls.{said, stepped}
 use Rattle.turns.specs.Meaning.{Gives}
@@ -77,23 +72,8 @@ module _ {V : Type 0} (bytes : V → List ℕ) (n party b : ℕ) (records : List
     parties-of bytes n (set records (party - 1) r) (putMid b ((b + n) - b) rows new) ≡ upd (parties-of bytes n records rows) party (party-of bytes r new)
   part-written r new e = party-written bytes n party b records rows r new low high many wide value (e ∙ part-whole)
 
-  module _ (valid : List ℕ → Bool) (g : Setting) (size : g .n ≡ n) (most : n ≤ 64) (blank : valid (replicate (g .width) 0) ≡ true)
-      (sized : (v : V) → length (bytes v) ≡ g .width) (sound : (v : V) → valid (bytes v) ≡ true) where
-    pub part-seated : Seated valid g party
-    part-seated = record { blank = blank; size = omega (arith, size, most); low = low; high = omega (arith, high, size) }
+  pub part-fits : party-fits n (parties-of bytes n records rows party) ≡ true → party-fits n mine ≡ true
+  part-fits fit = ap (party-fits n) (sym part-read) ∙ fit
 
-    part-fits : party-fits n (parties-of bytes n records rows party) ≡ true → Fits valid g mine
-    part-fits fit =
-      record {
-        numbers = ap (λ k. party-fits k mine) size ∙ (ap (party-fits n) (sym part-read) ∙ fit);
-        values = typed-party bytes valid (g .width) sized sound (g .n) (getD records (party - 1) d) own-part
-      }
-
-    module _ (capacity : ℕ) (w : List Msg) (fit : party-fits n (parties-of bytes n records rows party) ≡ true) (room : length w + (3 * n + 8) ≤ capacity) where
-      pub part-timer : parties-of bytes n records rows party .rec .view < last-view → Takes valid (g .width) capacity w (on-timer g party mine .posts)
-      part-timer early =
-        takes-timer valid g party part-seated mine capacity w (part-fits fit) (subst (λ p. p .rec .view < last-view) part-read early) (omega (arith, room, size))
-
-      pub part-step : (m : Msg) → in-range valid (g .width) m ≡ true → 1 ≤ m .from → m .from ≤ n → Takes valid (g .width) capacity w (step g party mine m .posts)
-      part-step m ranged first last =
-        takes-step valid g party part-seated mine capacity w (part-fits fit) m (record { range = ranged; low = first; high = omega (arith, last, size) }) (omega (arith, room, size))
+  pub part-early : parties-of bytes n records rows party .rec .view < last-view → mine .rec .view < last-view
+  part-early early = subst (λ p. p .rec .view < last-view) part-read early

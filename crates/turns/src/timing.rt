@@ -10,7 +10,7 @@ ghost use Rattle.agreement.specs.Ring.{tables-fit};
 ghost use Rattle.agreement.specs.Calls.{said, named, stepped};
 ghost use Rattle.tables.specs.Meaning.{parties-of, ring-of};
 ghost use Rattle.turns.specs.Meaning.{setting-in, Gives};
-use party::aborts::on_time_out;
+use party::step::timer;
 use rows::record::Record;
 use rows::row::Row;
 use rows::seat::Seat;
@@ -30,5 +30,5 @@ pub fn time_out<V: Value, W: Wire<V>>(ring: &Ring, records: &mut [Record<V>], ro
 {
     let seat = Seat { n: ring.n, f: ring.f, me: party };
     let base = base_of(ring.n, party - 1);
-    on_time_out(seat, &mut records[party as usize - 1], &mut rows[base..base + ring.n as usize], wire)
+    timer(seat, &mut records[party as usize - 1], &mut rows[base..base + ring.n as usize], wire)
 }

@@ -13,7 +13,7 @@ use Rattle.tables.specs.Meaning.{parties-of, ring-of}
 use Rattle.tables.proofs.Fitting.{one-fits}
 use Rattle.turns.specs.Meaning.{setting-in}
 use Rattle.std.proofs.shelf.Lists.{length-set}
-use Rattle.turns.proofs.Turning.{turned, part-kept, part-whole, part-read, part-written, part-seated, part-timer, part-step}
+use Rattle.turns.proofs.Turning.{turned, part-kept, part-whole, part-read, part-written, part-fits, part-early}
 use Rattle.turns.proofs.timing.time_out.Needs as need
 
 pub offset-records-party : need.offset-records-party
@@ -25,16 +25,13 @@ offset-rows-base g c = let h : c .base-of-base .result ≤ length (c .args .rows
 pub ghost-seat : need.ghost-seat
 ghost-seat g c = (c .args .ring .now .most, (c .args .ring .now .few (omega (arith, c .pre .honest .0, c .pre .honest .1)), (c .pre .honest .0, (c .pre .honest .1, tt))))
 
-pub on-time-out-requires : need.on-time-out-requires
-on-time-out-requires g c κs =
+pub timer-requires : need.timer-requires
+timer-requires g c κs =
     let v = g .V·Value in
     let s = c .args .ring .now in
     let b = c .base-of-base in
     let i = c .index-records-party in
-    record {
-      whole = part-whole (v .bytes) (s .n) (c .args .party) (b .result) (c .args .records .now) (c .args .rows .now) (i .result) (c .pre .honest .0) (c .pre .honest .1) (c .pre .places .0) (c .pre .places .1) (i .is) (b .ensures .value) (b .ensures .within);
-      taken = part-timer (v .bytes) (s .n) (c .args .party) (b .result) (c .args .records .now) (c .args .rows .now) (i .result) (c .pre .honest .0) (c .pre .honest .1) (c .pre .places .0) (c .pre .places .1) (i .is) (b .ensures .value) (b .ensures .within) (v .valid) (setting-in (v .width) (v .allows) s) refl (s .most) (g .V·Value·met .«blank_valid») (g .V·Value·met .sized) (g .V·Value·met .sound) (g .W·Wire .capacity (c .args .wire .now)) (g .W·Wire .waiting (c .args .wire .now)) (one-fits (ring-of (v .bytes) s (c .args .records .now) (c .args .rows .now) [] 0) (c .pre .fit) (c .args .party) (c .pre .honest .0) (c .pre .honest .1) (c .pre .honest .2)) (c .pre .room) (c .pre .early)
-    }
+    record { whole = part-whole (v .bytes) (s .n) (c .args .party) (b .result) (c .args .records .now) (c .args .rows .now) (i .result) (c .pre .honest .0) (c .pre .honest .1) (c .pre .places .0) (c .pre .places .1) (i .is) (b .ensures .value) (b .ensures .within); fits = part-fits (v .bytes) (s .n) (c .args .party) (b .result) (c .args .records .now) (c .args .rows .now) (i .result) (c .pre .honest .0) (c .pre .honest .1) (c .pre .places .0) (c .pre .places .1) (i .is) (b .ensures .value) (b .ensures .within) (one-fits (ring-of (v .bytes) s (c .args .records .now) (c .args .rows .now) [] 0) (c .pre .fit) (c .args .party) (c .pre .honest .0) (c .pre .honest .1) (c .pre .honest .2)); early = part-early (v .bytes) (s .n) (c .args .party) (b .result) (c .args .records .now) (c .args .rows .now) (i .result) (c .pre .honest .0) (c .pre .honest .1) (c .pre .places .0) (c .pre .places .1) (i .is) (b .ensures .value) (b .ensures .within) (c .pre .early); room = c .pre .room }
 
 pub returns : need.returns
 returns g c =
@@ -44,10 +41,10 @@ returns g c =
     let i = c .index-records-party in
     let whole = part-whole (v .bytes) (s .n) (c .args .party) (b .result) (c .args .records .now) (c .args .rows .now) (i .result) (c .pre .honest .0) (c .pre .honest .1) (c .pre .places .0) (c .pre .places .1) (i .is) (b .ensures .value) (b .ensures .within) in
     let s0 = ring-of (v .bytes) s (c .args .records .now) (c .args .rows .now) (g .W·Wire .waiting (c .args .wire .now)) (g .W·Wire .capacity (c .args .wire .now)) in
-    let set2 = set (c .args .records .now) ((c .args .party) - 1) (c .on-time-out .last .own) in
-    let put2 = putMid (b .result) ((b .result + s .n) - b .result) (c .args .rows .now) (c .on-time-out .last .rows) in
-    turned s0 (c .args .party) (on-timer (setting-in (v .width) (v .allows) s) (c .args .party) (parties-of (v .bytes) (s .n) (c .args .records .now) (c .args .rows .now) (c .args .party))) (on-timer (setting-in (v .width) (v .allows) s) (c .args .party) (party-of (v .bytes) (getD (c .args .records .now) (c .args .party - 1) (i .result)) (take ((b .result + s .n) - b .result) (drop (b .result) (c .args .rows .now))))) (party-of (v .bytes) (c .on-time-out .last .own) (c .on-time-out .last .rows)) (parties-of (v .bytes) (s .n) set2 put2) (length set2) (length put2)
-      (g .W·Wire .waiting (c .on-time-out .last .w)) (g .W·Wire .capacity (c .on-time-out .last .w)) (c .on-time-out .result) (c .on-time-out .ensures)
+    let set2 = set (c .args .records .now) ((c .args .party) - 1) (c .timer .last .own) in
+    let put2 = putMid (b .result) ((b .result + s .n) - b .result) (c .args .rows .now) (c .timer .last .rows) in
+    turned s0 (c .args .party) (on-timer (setting-in (v .width) (v .allows) s) (c .args .party) (parties-of (v .bytes) (s .n) (c .args .records .now) (c .args .rows .now) (c .args .party))) (on-timer (setting-in (v .width) (v .allows) s) (c .args .party) (party-of (v .bytes) (getD (c .args .records .now) (c .args .party - 1) (i .result)) (take ((b .result + s .n) - b .result) (drop (b .result) (c .args .rows .now))))) (party-of (v .bytes) (c .timer .last .own) (c .timer .last .rows)) (parties-of (v .bytes) (s .n) set2 put2) (length set2) (length put2)
+      (g .W·Wire .waiting (c .timer .last .w)) (g .W·Wire .capacity (c .timer .last .w)) (c .timer .result) (c .timer .ensures .step)
       (ap (on-timer (setting-in (v .width) (v .allows) s) (c .args .party)) (part-read (v .bytes) (s .n) (c .args .party) (b .result) (c .args .records .now) (c .args .rows .now) (i .result) (c .pre .honest .0) (c .pre .honest .1) (c .pre .places .0) (c .pre .places .1) (i .is) (b .ensures .value) (b .ensures .within)))
-      (part-written (v .bytes) (s .n) (c .args .party) (b .result) (c .args .records .now) (c .args .rows .now) (i .result) (c .pre .honest .0) (c .pre .honest .1) (c .pre .places .0) (c .pre .places .1) (i .is) (b .ensures .value) (b .ensures .within) (c .on-time-out .last .own) (c .on-time-out .last .rows) (omega arith))
+      (part-written (v .bytes) (s .n) (c .args .party) (b .result) (c .args .records .now) (c .args .rows .now) (i .result) (c .pre .honest .0) (c .pre .honest .1) (c .pre .places .0) (c .pre .places .1) (i .is) (b .ensures .value) (b .ensures .within) (c .timer .last .own) (c .timer .last .rows) (omega arith))
       (length-set (c .args .records .now) _ _) (part-kept (b .result) (s .n) (c .args .rows .now) _ (omega (arith, whole)) (omega (arith, b .ensures .within, c .pre .places .1)))
