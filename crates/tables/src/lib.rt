@@ -1,0 +1,5 @@
+pub mod refusal;
+pub mod ring;
+pub mod liars;
+pub mod bounds;
+pub mod tables;

@@ -1,0 +1,3 @@
+pub mod timing;
+pub mod handling;
+pub mod starting;
