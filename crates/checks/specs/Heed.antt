@@ -10,8 +10,8 @@ use Rattle.rules.specs.Tests.{is-nothing}
 abbrev pub first-by : Setting → Proposal → Row → ℕ → Bool
 first-by g state row kind =
     cond (eqb kind 2) (none (row .suggest))
-      (cond (eqb kind 3) (none (row .proof))
-        (cond (eqb kind 4) (is-nothing g state) (cond (eqb kind 10) (none (row .done)) (none (row .vote kind)))))
+    (cond (eqb kind 3) (none (row .proof))
+    (cond (eqb kind 4) (is-nothing g state) (cond (eqb kind 10) (none (row .done)) (none (row .vote kind)))))
 
 -- a suggest at the primary, or a propose from it
 abbrev pub led-by : ℕ → ℕ → ℕ → ℕ → Bool

@@ -95,5 +95,12 @@ pub fn heeds<V: Value>(seat: Seat, own: &Record<V>, rows: &[Row<V>], m: &Message
     let row = row_from(rows, m.from);
     let led = is_led(seat.me, primary_of::<V>(seat, own.view), m.from, m.kind);
     let first = is_first(own, &row, m.kind);
-    takes_in(m.kind, is_open(own), row.request < m.view, m.view == own.view, led, first)
+    takes_in(
+        m.kind,
+        is_open(own),
+        row.request < m.view,
+        m.view == own.view,
+        led,
+        first,
+    )
 }

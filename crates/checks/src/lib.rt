@@ -1,4 +1,4 @@
-pub mod lock;
-pub mod suggests;
 pub mod aborts;
 pub mod heed;
+pub mod lock;
+pub mod suggests;

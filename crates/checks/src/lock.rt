@@ -17,7 +17,14 @@ pub fn opened<V: Value>(seat: Seat, own: &Record<V>, rows: &[Row<V>]) -> bool
     requires { ⌜ length (now rows) ≡ seat .n ⌝ }
     ensures { λ r. ⌜ r ≡ lock-opened (setting-of width allows seat) (party-of bytes (now (own .entry)) (now (rows .entry))) ⌝ }
 {
-    has_voucher(seat, rows, &Opens { view: own.view, lock: own.lock })
+    has_voucher(
+        seat,
+        rows,
+        &Opens {
+            view: own.view,
+            lock: own.lock,
+        },
+    )
 }
 
 // Whether there is no lock, or it is on this value.

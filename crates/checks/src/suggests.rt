@@ -24,11 +24,23 @@ fn is_borne_out<V: Value>(seat: Seat, own: &Record<V>, rows: &[Row<V>], key: &Ke
     requires { ⌜ length (now rows) ≡ seat .n ⌝ }
     ensures { λ r. ⌜ r ≡ borne-out (setting-of width allows seat) (party-of bytes (now (own .entry)) (now (rows .entry))) (keyed-of bytes (now (key .entry))) ⌝ }
 {
-    has_voucher(seat, rows, &BearsOut { view: own.view, key: *key })
+    has_voucher(
+        seat,
+        rows,
+        &BearsOut {
+            view: own.view,
+            key: *key,
+        },
+    )
 }
 
 // Whether a suggest is accepted: its value is allowed, and its key3 is 0, or below the view and borne out.
-fn accepts_one<V: Value>(seat: Seat, own: &Record<V>, rows: &[Row<V>], suggest: &Option<Suggest<V>>) -> bool
+fn accepts_one<V: Value>(
+    seat: Seat,
+    own: &Record<V>,
+    rows: &[Row<V>],
+    suggest: &Option<Suggest<V>>,
+) -> bool
     requires { ⌜ length (now rows) ≡ seat .n ⌝ }
     ensures { λ r. ⌜ r ≡ accepts (setting-of width allows seat) (party-of bytes (now (own .entry)) (now (rows .entry))) (mapped (suggest-of bytes) (now (suggest .entry))) ⌝ }
 {

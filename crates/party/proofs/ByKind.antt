@@ -16,14 +16,14 @@ module _ (g : Setting) (me : ℕ) (p : Party) (m : Msg) where
   -- ## By kind
   abbrev rule-of : ℕ → Step
   rule-of k =
-    cond (eqb k 1) (on-request g me p m)
+      cond (eqb k 1) (on-request g me p m)
       (cond (eqb k 2) (on-suggest g me p m)
-        (cond (eqb k 3) (on-proof g me p m)
-          (cond (eqb k 4) (on-propose g me p m)
-            (cond (leb k 7) (on-vote g me p m)
-              (cond (eqb k 8) (and-then (on-vote g me p m) (wake g me))
-                (cond (eqb k 9) (on-lock g me p m)
-                  (cond (eqb k 10) (on-done g me p m) (on-abort g me p m))))))))
+      (cond (eqb k 3) (on-proof g me p m)
+      (cond (eqb k 4) (on-propose g me p m)
+      (cond (leb k 7) (on-vote g me p m)
+      (cond (eqb k 8) (and-then (on-vote g me p m) (wake g me))
+      (cond (eqb k 9) (on-lock g me p m)
+      (cond (eqb k 10) (on-done g me p m) (on-abort g me p m))))))))
 
   pub kind-1 : m .kind ≡ 1 → react g me p m ≡ on-request g me p m
   kind-1 e = ap rule-of e
@@ -39,7 +39,7 @@ module _ (g : Setting) (me : ℕ) (p : Party) (m : Msg) where
 
   pub kind-5-to-7 : 5 ≤ m .kind → m .kind ≤ 7 → react g me p m ≡ on-vote g me p m
   kind-5-to-7 low high =
-    rw (ne-eqb (m .kind) 1 (λ e. omega arith), ne-eqb (m .kind) 2 (λ e. omega arith), ne-eqb (m .kind) 3 (λ e. omega arith), ne-eqb (m .kind) 4 (λ e. omega arith), le-leb (m .kind) 7 high)
+      rw (ne-eqb (m .kind) 1 (λ e. omega arith), ne-eqb (m .kind) 2 (λ e. omega arith), ne-eqb (m .kind) 3 (λ e. omega arith), ne-eqb (m .kind) 4 (λ e. omega arith), le-leb (m .kind) 7 high)
 
   pub kind-8 : m .kind ≡ 8 → react g me p m ≡ and-then (on-vote g me p m) (wake g me)
   kind-8 e = ap rule-of e
@@ -75,18 +75,18 @@ module _ (g : Setting) (me : ℕ) (p : Party) (m : Msg) where
 
   abbrev firsts : ℕ → Bool
   firsts k =
-    cond (eqb k 2) (none (p .rows (m .from) .suggest))
+      cond (eqb k 2) (none (p .rows (m .from) .suggest))
       (cond (eqb k 3) (none (p .rows (m .from) .proof))
-        (cond (eqb k 4) (is-nothing g (p .rec .proposal)) (cond (eqb k 10) (none (p .rows (m .from) .done)) (none (p .rows (m .from) .vote k)))))
+      (cond (eqb k 4) (is-nothing g (p .rec .proposal)) (cond (eqb k 10) (none (p .rows (m .from) .done)) (none (p .rows (m .from) .vote k)))))
 
   abbrev rest-of : ℕ → Bool
   rest-of k =
-    cond (eqb k 1) (ltb (p .rows (m .from) .request) (m .view))
+      cond (eqb k 1) (ltb (p .rows (m .from) .request) (m .view))
       (cond (between 2 9 k)
-        (eqb (m .view) (p .rec .view) && (cond (eqb k 2) (eqb me (primary g (p .rec .view))) (cond (eqb k 4) (eqb (m .from) (primary g (p .rec .view))) true) && firsts k))
-        (cond (eqb k 10) (firsts k) (eqb k 11)))
+      (eqb (m .view) (p .rec .view) && (cond (eqb k 2) (eqb me (primary g (p .rec .view))) (cond (eqb k 4) (eqb (m .from) (primary g (p .rec .view))) true) && firsts k))
+      (cond (eqb k 10) (firsts k) (eqb k 11)))
 
   pub propose-first : m .kind ≡ 4 → true ≡ heeded g me p m → p .rec .proposal ≡ nothing
   propose-first k h =
-    only-nothing (p .rec .proposal)
+      only-nothing (p .rec .proposal)
       (part (eqb (m .from) (primary g (p .rec .view))) _ (part (eqb (m .view) (p .rec .view)) _ (part (none (p .rec .decision)) (rest-of (m .kind)) h ∙ ap rest-of k)))

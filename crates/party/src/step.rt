@@ -30,7 +30,13 @@ use voting::votes::on_vote;
 use wires::wire::Wire;
 
 // A key3 is a vote, and may free a waiting proposal.
-fn on_key3<V: Value, W: Wire<V>>(seat: Seat, own: &mut Record<V>, rows: &mut [Row<V>], w: &mut W, m: &Message<V>) -> usize
+fn on_key3<V: Value, W: Wire<V>>(
+    seat: Seat,
+    own: &mut Record<V>,
+    rows: &mut [Row<V>],
+    w: &mut W,
+    m: &Message<V>,
+) -> usize
     requires whole { ⌜ (length (now rows) ≡ seat .n) × (1 ≤ now m .from) × (now m .from ≤ seat .n) × (now m .kind ≡ 8) ⌝ }
     requires taken { ⌜ Takes valid width (capacity (now w)) (waiting (now w)) (and-then (on-vote (setting-of width allows seat) (seat .me) (party-of bytes (now own) (now rows)) (message bytes (now m))) (wake (setting-of width allows seat) (seat .me)) .posts) ⌝ }
     ensures { λ r. ⌜ Does (and-then (on-vote (setting-of width allows seat) (seat .me) (party-of bytes (now (own .entry)) (now (rows .entry))) (message bytes (now (m .entry)))) (wake (setting-of width allows seat) (seat .me))) (party-of bytes (now (own .exit)) (now (rows .exit))) (waiting (now (w .entry))) (waiting (now (w .exit))) (capacity (now (w .entry))) (capacity (now (w .exit))) r ⌝ }
@@ -41,7 +47,13 @@ fn on_key3<V: Value, W: Wire<V>>(seat: Seat, own: &mut Record<V>, rows: &mut [Ro
 }
 
 // What a message that is taken in does, by its kind.
-fn by_kind<V: Value, W: Wire<V>>(seat: Seat, own: &mut Record<V>, rows: &mut [Row<V>], w: &mut W, m: &Message<V>) -> usize
+fn by_kind<V: Value, W: Wire<V>>(
+    seat: Seat,
+    own: &mut Record<V>,
+    rows: &mut [Row<V>],
+    w: &mut W,
+    m: &Message<V>,
+) -> usize
     requires whole { ⌜ (length (now rows) ≡ seat .n) × (1 ≤ now m .from) × (now m .from ≤ seat .n) × (1 ≤ now m .kind) × (now m .kind ≤ 11) × (now m .kind ≡ 4 → proposal-of bytes (now own .proposal) ≡ nothing) ⌝ }
     requires taken { ⌜ Takes valid width (capacity (now w)) (waiting (now w)) (react (setting-of width allows seat) (seat .me) (party-of bytes (now own) (now rows)) (message bytes (now m)) .posts) ⌝ }
     ensures { λ r. ⌜ Does (react (setting-of width allows seat) (seat .me) (party-of bytes (now (own .entry)) (now (rows .entry))) (message bytes (now (m .entry)))) (party-of bytes (now (own .exit)) (now (rows .exit))) (waiting (now (w .entry))) (waiting (now (w .exit))) (capacity (now (w .entry))) (capacity (now (w .exit))) r ⌝ }
@@ -60,7 +72,13 @@ fn by_kind<V: Value, W: Wire<V>>(seat: Seat, own: &mut Record<V>, rows: &mut [Ro
 }
 
 // Takes a message in, or ignores it, on a wire that takes what it posts.
-fn take_in<V: Value, W: Wire<V>>(seat: Seat, own: &mut Record<V>, rows: &mut [Row<V>], w: &mut W, m: &Message<V>) -> usize
+fn take_in<V: Value, W: Wire<V>>(
+    seat: Seat,
+    own: &mut Record<V>,
+    rows: &mut [Row<V>],
+    w: &mut W,
+    m: &Message<V>,
+) -> usize
     requires whole { ⌜ (length (now rows) ≡ seat .n) × (1 ≤ now m .from) × (now m .from ≤ seat .n) × (1 ≤ now m .kind) × (now m .kind ≤ 11) ⌝ }
     requires taken { ⌜ Takes valid width (capacity (now w)) (waiting (now w)) (stepped (setting-of width allows seat) (seat .me) (party-of bytes (now own) (now rows)) (message bytes (now m)) .posts) ⌝ }
     ensures { λ r. ⌜ Does (stepped (setting-of width allows seat) (seat .me) (party-of bytes (now (own .entry)) (now (rows .entry))) (message bytes (now (m .entry)))) (party-of bytes (now (own .exit)) (now (rows .exit))) (waiting (now (w .entry))) (waiting (now (w .exit))) (capacity (now (w .entry))) (capacity (now (w .exit))) r ⌝ }
@@ -74,7 +92,13 @@ fn take_in<V: Value, W: Wire<V>>(seat: Seat, own: &mut Record<V>, rows: &mut [Ro
 
 // One step with a message: the party and the wire are as the rules say, and what the party keeps stays within its
 // bounds. The answer is the number of posts.
-pub fn step<V: Value, W: Wire<V>>(seat: Seat, own: &mut Record<V>, rows: &mut [Row<V>], w: &mut W, m: &Message<V>) -> usize
+pub fn step<V: Value, W: Wire<V>>(
+    seat: Seat,
+    own: &mut Record<V>,
+    rows: &mut [Row<V>],
+    w: &mut W,
+    m: &Message<V>,
+) -> usize
     requires whole { ⌜ length (now rows) ≡ seat .n ⌝ }
     requires fits { ⌜ party-fits (seat .n) (party-of bytes (now own) (now rows)) ≡ true ⌝ }
     requires proper { ⌜ Proper valid (setting-of width allows seat) (message bytes (now m)) ⌝ }
@@ -86,7 +110,12 @@ pub fn step<V: Value, W: Wire<V>>(seat: Seat, own: &mut Record<V>, rows: &mut [R
 }
 
 // One step of the timer, in any view but the last.
-pub fn timer<V: Value, W: Wire<V>>(seat: Seat, own: &mut Record<V>, rows: &mut [Row<V>], w: &mut W) -> usize
+pub fn timer<V: Value, W: Wire<V>>(
+    seat: Seat,
+    own: &mut Record<V>,
+    rows: &mut [Row<V>],
+    w: &mut W,
+) -> usize
     requires whole { ⌜ length (now rows) ≡ seat .n ⌝ }
     requires fits { ⌜ party-fits (seat .n) (party-of bytes (now own) (now rows)) ≡ true ⌝ }
     requires early { ⌜ now own .view < last-view ⌝ }

@@ -63,20 +63,20 @@ module _ {V : Type 0} (bytes : V → List ℕ) (valid : List ℕ → Bool) (widt
 
   pub all-values : (own : Record V) (rs : List (Row V)) (n : ℕ) → values-fit valid width n (party-of bytes own rs) ≡ true
   all-values own rs n =
-    both
+      both
       (both (both (a-value (own .key1 .value)) (both (a-value (own .key2 .value)) (both (a-value (own .key3 .value)) (a-value (own .lock .value)))))
-        (both (a-value (own .suggest .key3 .value)) (both (a-value (own .suggest .key2 .value)) (both (a-value (own .proof .key1 .value))
-          (both (an-offer (own .offer)) (a-proposal (own .proposal)))))))
+      (both (a-value (own .suggest .key3 .value)) (both (a-value (own .suggest .key2 .value)) (both (a-value (own .proof .key1 .value))
+      (both (an-offer (own .offer)) (a-proposal (own .proposal)))))))
       (all-stored rs n)
 
 -- with room for as many as a step may post, a wire takes those of the party's own
 pub takes-own : (valid : List ℕ → Bool) (g : model.Setting) (me capacity : ℕ) (old posts : List Msg) → g .n ≤ 64 → All (Own-post valid g me) posts → length posts ≤ most-posts (g .n) →
-  length old + most-posts (g .n) ≤ capacity → Takes valid (g .width) capacity old posts
+    length old + most-posts (g .n) ≤ capacity → Takes valid (g .width) capacity old posts
 takes-own valid g me capacity old posts h a f r =
     record {
       ranged = all-weaker (Own-post valid g me) (λ m. in-range valid (g .width) m ≡ true) (λ m o. o .range) posts a;
       room = omega (arith, f, r);
-      few = omega (arith, f, h)
+      few = omega (arith, f, h);
     }
 
 -- the kind of a message in range

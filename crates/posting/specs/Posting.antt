@@ -27,8 +27,15 @@ pub record Posted (before after : List Msg) (capacity capacity′ number : ℕ) 
 abbrev pub addressed : Msg → ℕ → Msg
 addressed m to =
     record {
-      kind = m .kind; from = m .from; to = to; view = m .view; key = m .key; value = m .value; second-key = m .second-key;
-      second-value = m .second-value; previous = m .previous
+      kind = m .kind;
+      from = m .from;
+      to = to;
+      view = m .view;
+      key = m .key;
+      value = m .value;
+      second-key = m .second-key;
+      second-value = m .second-value;
+      previous = m .previous;
     }
 
 -- whether a party with this row is among those that a message goes to

@@ -14,7 +14,17 @@ use values::value::Value;
 pub fn view_letter<V: Value>(seat: Seat, kind: u8, view: u32, to: u8) -> Message<V>
     ensures { λ r. ⌜ message bytes r ≡ view-msg (setting-of width allows seat) (seat .me) kind view to ⌝ }
 {
-    Message { kind, from: seat.me, to, view, key: 0, value: V::blank(), second_key: 0, second_value: V::blank(), previous: Some(0) }
+    Message {
+        kind,
+        from: seat.me,
+        to,
+        view,
+        key: 0,
+        value: V::blank(),
+        second_key: 0,
+        second_value: V::blank(),
+        previous: Some(0),
+    }
 }
 
 pub fn suggest_letter<V: Value>(seat: Seat, view: u32, suggest: &Suggest<V>, to: u8) -> Message<V>
@@ -52,12 +62,32 @@ pub fn proof_letter<V: Value>(seat: Seat, view: u32, proof: &Proof<V>, to: u8) -
 pub fn propose_letter<V: Value>(seat: Seat, view: u32, offer: &Keyed<V>, to: u8) -> Message<V>
     ensures { λ r. ⌜ message bytes r ≡ propose-msg (setting-of width allows seat) (seat .me) view (keyed-of bytes (now (offer .entry))) to ⌝ }
 {
-    Message { kind: 4, from: seat.me, to, view, key: offer.at, value: offer.value, second_key: 0, second_value: V::blank(), previous: Some(0) }
+    Message {
+        kind: 4,
+        from: seat.me,
+        to,
+        view,
+        key: offer.at,
+        value: offer.value,
+        second_key: 0,
+        second_value: V::blank(),
+        previous: Some(0),
+    }
 }
 
 // An echo, key1, key2, key3 or lock (5 to 9), or a done (10) with view 0.
 pub fn vote_letter<V: Value>(seat: Seat, kind: u8, view: u32, value: &V, to: u8) -> Message<V>
     ensures { λ r. ⌜ message bytes r ≡ vote-msg (setting-of width allows seat) (seat .me) kind view (bytes (now (value .entry))) to ⌝ }
 {
-    Message { kind, from: seat.me, to, view, key: 0, value: *value, second_key: 0, second_value: V::blank(), previous: Some(0) }
+    Message {
+        kind,
+        from: seat.me,
+        to,
+        view,
+        key: 0,
+        value: *value,
+        second_key: 0,
+        second_value: V::blank(),
+        previous: Some(0),
+    }
 }

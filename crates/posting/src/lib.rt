@@ -1,4 +1,4 @@
 pub mod audience;
-pub mod post;
 pub mod letters;
+pub mod post;
 pub mod sends;

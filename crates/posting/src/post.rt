@@ -34,7 +34,13 @@ fn goes_to<V: Value>(whom: Audience, row: &Row<V>) -> bool
 }
 
 // Posts a message to each party of the audience, in rising order.
-pub fn post_each<V: Value, W: Wire<V>>(seat: Seat, rows: &[Row<V>], w: &mut W, whom: Audience, m: &Message<V>) -> usize
+pub fn post_each<V: Value, W: Wire<V>>(
+    seat: Seat,
+    rows: &[Row<V>],
+    w: &mut W,
+    whom: Audience,
+    m: &Message<V>,
+) -> usize
     requires whole { ⌜ length (now rows) ≡ seat .n ⌝ }
     requires taken { ⌜ Takes valid width (capacity (now w)) (waiting (now w)) (to-each (λ j. goes whom (rows-of bytes (now rows) j)) (addressed (message bytes (now m))) (seat .n)) ⌝ }
     ensures { λ r. ⌜ Posted (waiting (now (w .entry))) (waiting (now (w .exit))) (capacity (now (w .entry))) (capacity (now (w .exit))) r (to-each (λ j. goes whom (rows-of bytes (now (rows .entry)) j)) (addressed (message bytes (now (m .entry)))) (seat .n)) ⌝ }

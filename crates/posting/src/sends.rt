@@ -18,7 +18,13 @@ use values::value::Value;
 use wires::wire::Wire;
 
 // Sends a request (1) or an abort (11) to all.
-pub fn send_view<V: Value, W: Wire<V>>(seat: Seat, rows: &[Row<V>], w: &mut W, kind: u8, view: u32) -> usize
+pub fn send_view<V: Value, W: Wire<V>>(
+    seat: Seat,
+    rows: &[Row<V>],
+    w: &mut W,
+    kind: u8,
+    view: u32,
+) -> usize
     requires whole { ⌜ length (now rows) ≡ seat .n ⌝ }
     requires taken { ⌜ Takes valid width (capacity (now w)) (waiting (now w)) (to-all (setting-of width allows seat) (seat .me) (view-msg (setting-of width allows seat) (seat .me) kind view)) ⌝ }
     ensures { λ r. ⌜ Posted (waiting (now (w .entry))) (waiting (now (w .exit))) (capacity (now (w .entry))) (capacity (now (w .exit))) r (to-all (setting-of width allows seat) (seat .me) (view-msg (setting-of width allows seat) (seat .me) kind view)) ⌝ }
@@ -38,7 +44,12 @@ pub fn send_done<V: Value, W: Wire<V>>(seat: Seat, rows: &[Row<V>], w: &mut W, v
 }
 
 // Makes the proof of the view.
-pub fn make_proof<V: Value, W: Wire<V>>(seat: Seat, own: &Record<V>, rows: &[Row<V>], w: &mut W) -> usize
+pub fn make_proof<V: Value, W: Wire<V>>(
+    seat: Seat,
+    own: &Record<V>,
+    rows: &[Row<V>],
+    w: &mut W,
+) -> usize
     requires whole { ⌜ length (now rows) ≡ seat .n ⌝ }
     requires taken { ⌜ Takes valid width (capacity (now w)) (waiting (now w)) (to-joined (setting-of width allows seat) (seat .me) (party-of bytes (now own) (now rows)) (proof-msg (setting-of width allows seat) (seat .me) (now own .view) (record-of bytes (now own) .proof))) ⌝ }
     ensures { λ r. ⌜ Posted (waiting (now (w .entry))) (waiting (now (w .exit))) (capacity (now (w .entry))) (capacity (now (w .exit))) r (to-joined (setting-of width allows seat) (seat .me) (party-of bytes (now (own .entry)) (now (rows .entry))) (proof-msg (setting-of width allows seat) (seat .me) (now (own .entry) .view) (record-of bytes (now (own .entry)) .proof))) ⌝ }
@@ -48,7 +59,13 @@ pub fn make_proof<V: Value, W: Wire<V>>(seat: Seat, own: &Record<V>, rows: &[Row
 }
 
 // Makes a propose.
-pub fn make_propose<V: Value, W: Wire<V>>(seat: Seat, own: &Record<V>, rows: &[Row<V>], w: &mut W, offer: &Keyed<V>) -> usize
+pub fn make_propose<V: Value, W: Wire<V>>(
+    seat: Seat,
+    own: &Record<V>,
+    rows: &[Row<V>],
+    w: &mut W,
+    offer: &Keyed<V>,
+) -> usize
     requires whole { ⌜ length (now rows) ≡ seat .n ⌝ }
     requires taken { ⌜ Takes valid width (capacity (now w)) (waiting (now w)) (to-joined (setting-of width allows seat) (seat .me) (party-of bytes (now own) (now rows)) (propose-msg (setting-of width allows seat) (seat .me) (now own .view) (keyed-of bytes (now offer)))) ⌝ }
     ensures { λ r. ⌜ Posted (waiting (now (w .entry))) (waiting (now (w .exit))) (capacity (now (w .entry))) (capacity (now (w .exit))) r (to-joined (setting-of width allows seat) (seat .me) (party-of bytes (now (own .entry)) (now (rows .entry))) (propose-msg (setting-of width allows seat) (seat .me) (now (own .entry) .view) (keyed-of bytes (now (offer .entry))))) ⌝ }
@@ -58,7 +75,14 @@ pub fn make_propose<V: Value, W: Wire<V>>(seat: Seat, own: &Record<V>, rows: &[R
 }
 
 // Makes an echo, key1, key2, key3 or lock (5 to 9).
-pub fn make_vote<V: Value, W: Wire<V>>(seat: Seat, own: &Record<V>, rows: &[Row<V>], w: &mut W, kind: u8, value: &V) -> usize
+pub fn make_vote<V: Value, W: Wire<V>>(
+    seat: Seat,
+    own: &Record<V>,
+    rows: &[Row<V>],
+    w: &mut W,
+    kind: u8,
+    value: &V,
+) -> usize
     requires whole { ⌜ length (now rows) ≡ seat .n ⌝ }
     requires taken { ⌜ Takes valid width (capacity (now w)) (waiting (now w)) (to-joined (setting-of width allows seat) (seat .me) (party-of bytes (now own) (now rows)) (vote-msg (setting-of width allows seat) (seat .me) kind (now own .view) (bytes (now value)))) ⌝ }
     ensures { λ r. ⌜ Posted (waiting (now (w .entry))) (waiting (now (w .exit))) (capacity (now (w .entry))) (capacity (now (w .exit))) r (to-joined (setting-of width allows seat) (seat .me) (party-of bytes (now (own .entry)) (now (rows .entry))) (vote-msg (setting-of width allows seat) (seat .me) kind (now (own .entry) .view) (bytes (now (value .entry))))) ⌝ }

@@ -16,7 +16,7 @@ use Rattle.posting.proofs.Choosing.{passed, failed}
 
 -- the rule of a propose by its tests, in the order of the rules and in that of the states
 in-order : (al z eq mw op : Bool) (dr ec wt : Step) →
-  cond (al && (z || eq)) ec (cond (al && mw) (cond op ec wt) dr) ≡ cond (not al) dr (cond (z || eq) ec (cond mw (cond (eq || op) ec wt) dr))
+    cond (al && (z || eq)) ec (cond (al && mw) (cond op ec wt) dr) ≡ cond (not al) dr (cond (z || eq) ec (cond mw (cond (eq || op) ec wt) dr))
 in-order false z eq mw op dr ec wt = refl
 in-order true true eq mw op dr ec wt = refl
 in-order true false true mw op dr ec wt = refl
@@ -53,9 +53,9 @@ module _ (g : Setting) (me : ℕ) (p : Party) (m : Msg) where
   pub settled-propose : m .kind ≡ 4 → p .rec .proposal ≡ nothing → settled g me p m ≡ on-propose g me p m
   unfolding settled on-propose wake
   settled-propose k e =
-    ap (λ s. settled-at s (m .kind)) e ∙ (ap (settled-at nothing) k ∙
-    (by-state (take-up g me p) fits waits (lock-opened g p) (echoed (m .value)) (waiting (m .value)) dropped ∙
-    in-order (g .allows (m .value)) (eqb (p .rec .field 9 .at) 0) (equal (p .rec .field 9 .value) (m .value)) (may-wait g me (p .rec) (m .key)) (lock-opened g p)
+      ap (λ s. settled-at s (m .kind)) e ∙ (ap (settled-at nothing) k ∙
+      (by-state (take-up g me p) fits waits (lock-opened g p) (echoed (m .value)) (waiting (m .value)) dropped ∙
+      in-order (g .allows (m .value)) (eqb (p .rec .field 9 .at) 0) (equal (p .rec .field 9 .value) (m .value)) (may-wait g me (p .rec) (m .key)) (lock-opened g p)
       (still (with-rec p (with-proposal (p .rec) dropped))) (echo g me p (m .value)) (still (with-rec p (with-proposal (p .rec) (waiting (m .value)))))))
 
   -- with the state that it has, nothing changes
@@ -67,9 +67,9 @@ module _ (g : Setting) (me : ℕ) (p : Party) (m : Msg) where
 
   at-waiting : (y : List ℕ) → (eqb (m .kind) 3 || eqb (m .kind) 8) ≡ true → p .rec .proposal ≡ waiting y → settled-at (waiting y) (m .kind) ≡ wake-proposal g me (waiting y) p
   at-waiting y k e =
-    let free = equal (p .rec .field 9 .value) y || lock-opened g p in
-    ap (λ c. take-up g me p (cond (c && free) (echoed y) (waiting y))) k ∙ (by-two (take-up g me p) free (echoed y) (waiting y) ∙
-    ap (cond free (echo g me p y)) (kept (waiting y) e))
+      let free = equal (p .rec .field 9 .value) y || lock-opened g p in
+      ap (λ c. take-up g me p (cond (c && free) (echoed y) (waiting y))) k ∙ (by-two (take-up g me p) free (echoed y) (waiting y) ∙
+      ap (cond free (echo g me p y)) (kept (waiting y) e))
 
   at-state : (s : Proposal) → (eqb (m .kind) 3 || eqb (m .kind) 8) ≡ true → eqb (m .kind) 4 ≡ false → p .rec .proposal ≡ s → settled-at s (m .kind) ≡ wake-proposal g me s p
   at-state nothing k n e = at-nothing n e
@@ -89,7 +89,7 @@ module _ (g : Setting) (me : ℕ) (p : Party) (m : Msg) where
   proof-told q e = ap (wake g me) (sym e)
 
   pub same-next : (r : Proposal) (f w h : Bool) → r ≡ next-state (p .rec .proposal) (m .kind) (m .value) f w h → f ≡ fits → w ≡ waits →
-    h ≡ (is-held (p .rec .field 9 .value) (p .rec .proposal) || lock-opened g p) → r ≡ next-of g me p m
+      h ≡ (is-held (p .rec .field 9 .value) (p .rec .proposal) || lock-opened g p) → r ≡ next-of g me p m
   same-next r f w h e ef ew eh =
-    let next : Bool → Bool → Bool → Proposal = next-state (p .rec .proposal) (m .kind) (m .value) in
-    e ∙ (ap (λ a. next a w h) ef ∙ (ap (λ a. next fits a h) ew ∙ ap (next fits waits) eh))
+      let next : Bool → Bool → Bool → Proposal = next-state (p .rec .proposal) (m .kind) (m .value) in
+      e ∙ (ap (λ a. next a w h) ef ∙ (ap (λ a. next fits a h) ew ∙ ap (next fits waits) eh))

@@ -17,7 +17,7 @@ module _ (g : Setting) (me : ℕ) (p : Party) (m : Msg) where
   pub suggest-proposed : (q : Party) (b : Option Suggest) → q ≡ told-suggest g me p m → true ≡ propose-due g me q → b ≡ best g q (g .n) → on-suggest g me p m ≡ propose g me q b
   unfolding on-suggest
   suggest-proposed q b e h f =
-    ap after-suggest (sym e) ∙ (passed (propose-due g me q) (propose g me q (best g q (g .n))) (still q) h ∙ ap (propose g me q) (sym f))
+      ap after-suggest (sym e) ∙ (passed (propose-due g me q) (propose g me q (best g q (g .n))) (still q) h ∙ ap (propose g me q) (sym f))
 
   pub suggest-still : (q : Party) → q ≡ told-suggest g me p m → false ≡ propose-due g me q → on-suggest g me p m ≡ still q
   unfolding on-suggest

@@ -43,7 +43,7 @@ module _ (g : Setting) (me : ℕ) where
   abbrev pub next-of : Party → Msg → Proposal
   next-of p m =
       next-state (p .rec .proposal) (m .kind) (m .value) (g .allows (m .value) && lock-fits g me (p .rec) (m .value))
-        (g .allows (m .value) && may-wait g me (p .rec) (m .key)) (is-held (p .rec .field 9 .value) (p .rec .proposal) || lock-opened g p)
+      (g .allows (m .value) && may-wait g me (p .rec) (m .key)) (is-held (p .rec .field 9 .value) (p .rec .proposal) || lock-opened g p)
 
   unfoldable pub settled : Party → Msg → Step
   settled p m = cond (is-settled (p .rec .proposal)) (still p) (take-up p (next-of p m))

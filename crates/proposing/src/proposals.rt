@@ -27,7 +27,14 @@ use values::value::Value;
 use wires::wire::Wire;
 
 // The state and the arriving kind, matched together, give the next state.
-fn next_proposal<V: Value>(state: Proposal<V>, kind: u8, value: V, fits: bool, waits: bool, freed: bool) -> Proposal<V>
+fn next_proposal<V: Value>(
+    state: Proposal<V>,
+    kind: u8,
+    value: V,
+    fits: bool,
+    waits: bool,
+    freed: bool,
+) -> Proposal<V>
     ensures { λ r. ⌜ proposal-of bytes r ≡ next-state (proposal-of bytes state) kind (bytes value) fits waits freed ⌝ }
 {
     match (state, kind) {
@@ -87,7 +94,12 @@ fn freed_now<V: Value>(seat: Seat, own: &Record<V>, rows: &[Row<V>]) -> bool
 }
 
 // What becomes of the proposal with this message.
-fn after_message<V: Value>(seat: Seat, own: &Record<V>, rows: &[Row<V>], m: &Message<V>) -> Proposal<V>
+fn after_message<V: Value>(
+    seat: Seat,
+    own: &Record<V>,
+    rows: &[Row<V>],
+    m: &Message<V>,
+) -> Proposal<V>
     requires { ⌜ length (now rows) ≡ seat .n ⌝ }
     ensures { λ r. ⌜ proposal-of bytes r ≡ next-of (setting-of width allows seat) (seat .me) (party-of bytes (now (own .entry)) (now (rows .entry))) (message bytes (now (m .entry))) ⌝ }
 {
@@ -98,7 +110,13 @@ fn after_message<V: Value>(seat: Seat, own: &Record<V>, rows: &[Row<V>], m: &Mes
 }
 
 // Writes the state, and makes the echo that comes with it.
-fn take_state<V: Value, W: Wire<V>>(seat: Seat, own: &mut Record<V>, rows: &[Row<V>], w: &mut W, state: Proposal<V>) -> usize
+fn take_state<V: Value, W: Wire<V>>(
+    seat: Seat,
+    own: &mut Record<V>,
+    rows: &[Row<V>],
+    w: &mut W,
+    state: Proposal<V>,
+) -> usize
     requires whole { ⌜ length (now rows) ≡ seat .n ⌝ }
     requires taken { ⌜ Takes valid width (capacity (now w)) (waiting (now w)) (take-up (setting-of width allows seat) (seat .me) (party-of bytes (now own) (now rows)) (proposal-of bytes state) .posts) ⌝ }
     ensures { λ r. ⌜ Does (take-up (setting-of width allows seat) (seat .me) (party-of bytes (now (own .entry)) (now (rows .entry))) (proposal-of bytes state)) (party-of bytes (now (own .exit)) (now (rows .entry))) (waiting (now (w .entry))) (waiting (now (w .exit))) (capacity (now (w .entry))) (capacity (now (w .exit))) r ⌝ }
@@ -125,7 +143,13 @@ fn take_state<V: Value, W: Wire<V>>(seat: Seat, own: &mut Record<V>, rows: &[Row
 }
 
 // The proposal after a propose, a proof or a key3.
-fn settle<V: Value, W: Wire<V>>(seat: Seat, own: &mut Record<V>, rows: &[Row<V>], w: &mut W, m: &Message<V>) -> usize
+fn settle<V: Value, W: Wire<V>>(
+    seat: Seat,
+    own: &mut Record<V>,
+    rows: &[Row<V>],
+    w: &mut W,
+    m: &Message<V>,
+) -> usize
     requires whole { ⌜ length (now rows) ≡ seat .n ⌝ }
     requires taken { ⌜ Takes valid width (capacity (now w)) (waiting (now w)) (settled (setting-of width allows seat) (seat .me) (party-of bytes (now own) (now rows)) (message bytes (now m)) .posts) ⌝ }
     ensures { λ r. ⌜ Does (settled (setting-of width allows seat) (seat .me) (party-of bytes (now (own .entry)) (now (rows .entry))) (message bytes (now (m .entry)))) (party-of bytes (now (own .exit)) (now (rows .entry))) (waiting (now (w .entry))) (waiting (now (w .exit))) (capacity (now (w .entry))) (capacity (now (w .exit))) r ⌝ }
@@ -139,7 +163,13 @@ fn settle<V: Value, W: Wire<V>>(seat: Seat, own: &mut Record<V>, rows: &[Row<V>]
 }
 
 // A propose, the first of the view.
-pub fn on_propose<V: Value, W: Wire<V>>(seat: Seat, own: &mut Record<V>, rows: &[Row<V>], w: &mut W, m: &Message<V>) -> usize
+pub fn on_propose<V: Value, W: Wire<V>>(
+    seat: Seat,
+    own: &mut Record<V>,
+    rows: &[Row<V>],
+    w: &mut W,
+    m: &Message<V>,
+) -> usize
     requires whole { ⌜ (length (now rows) ≡ seat .n) × (now m .kind ≡ 4) × (proposal-of bytes (now own .proposal) ≡ nothing) ⌝ }
     requires taken { ⌜ Takes valid width (capacity (now w)) (waiting (now w)) (on-propose (setting-of width allows seat) (seat .me) (party-of bytes (now own) (now rows)) (message bytes (now m)) .posts) ⌝ }
     ensures { λ r. ⌜ Does (on-propose (setting-of width allows seat) (seat .me) (party-of bytes (now (own .entry)) (now (rows .entry))) (message bytes (now (m .entry)))) (party-of bytes (now (own .exit)) (now (rows .entry))) (waiting (now (w .entry))) (waiting (now (w .exit))) (capacity (now (w .entry))) (capacity (now (w .exit))) r ⌝ }
@@ -148,7 +178,13 @@ pub fn on_propose<V: Value, W: Wire<V>>(seat: Seat, own: &mut Record<V>, rows: &
 }
 
 // A waiting proposal is tested after a proof (3) and after a key3 (8).
-pub fn wake_proposal<V: Value, W: Wire<V>>(seat: Seat, own: &mut Record<V>, rows: &[Row<V>], w: &mut W, m: &Message<V>) -> usize
+pub fn wake_proposal<V: Value, W: Wire<V>>(
+    seat: Seat,
+    own: &mut Record<V>,
+    rows: &[Row<V>],
+    w: &mut W,
+    m: &Message<V>,
+) -> usize
     requires whole { ⌜ (length (now rows) ≡ seat .n) × ((eqb (now m .kind) 3 || eqb (now m .kind) 8) ≡ true) ⌝ }
     requires taken { ⌜ Takes valid width (capacity (now w)) (waiting (now w)) (wake (setting-of width allows seat) (seat .me) (party-of bytes (now own) (now rows)) .posts) ⌝ }
     ensures { λ r. ⌜ Does (wake (setting-of width allows seat) (seat .me) (party-of bytes (now (own .entry)) (now (rows .entry)))) (party-of bytes (now (own .exit)) (now (rows .entry))) (waiting (now (w .entry))) (waiting (now (w .exit))) (capacity (now (w .entry))) (capacity (now (w .exit))) r ⌝ }
@@ -157,12 +193,24 @@ pub fn wake_proposal<V: Value, W: Wire<V>>(seat: Seat, own: &mut Record<V>, rows
 }
 
 // A proof is stored; it may free a waiting proposal.
-pub fn on_proof<V: Value, W: Wire<V>>(seat: Seat, own: &mut Record<V>, rows: &mut [Row<V>], w: &mut W, m: &Message<V>) -> usize
+pub fn on_proof<V: Value, W: Wire<V>>(
+    seat: Seat,
+    own: &mut Record<V>,
+    rows: &mut [Row<V>],
+    w: &mut W,
+    m: &Message<V>,
+) -> usize
     requires whole { ⌜ (length (now rows) ≡ seat .n) × (1 ≤ now m .from) × (now m .from ≤ seat .n) × (now m .kind ≡ 3) ⌝ }
     requires taken { ⌜ Takes valid width (capacity (now w)) (waiting (now w)) (on-proof (setting-of width allows seat) (seat .me) (party-of bytes (now own) (now rows)) (message bytes (now m)) .posts) ⌝ }
     ensures { λ r. ⌜ Does (on-proof (setting-of width allows seat) (seat .me) (party-of bytes (now (own .entry)) (now (rows .entry))) (message bytes (now (m .entry)))) (party-of bytes (now (own .exit)) (now (rows .exit))) (waiting (now (w .entry))) (waiting (now (w .exit))) (capacity (now (w .entry))) (capacity (now (w .exit))) r ⌝ }
 {
-    let proof = Proof { key1: Keyed { at: m.key, value: m.value }, previous: m.previous };
+    let proof = Proof {
+        key1: Keyed {
+            at: m.key,
+            value: m.value,
+        },
+        previous: m.previous,
+    };
     note_proof(rows, m.from, &proof);
     wake_proposal(seat, own, rows, w, m)
 }

@@ -12,8 +12,8 @@ use Rattle.rules.specs.Step.{on-request}
 
 -- ## A request
 pub made-as : (g : Setting) (me : ℕ) (r : Record) (to : ℕ) → made g me r to ≡
-  (proof-msg g me (r .view) (r .proof) to ∷ []) ++ (made-offer g me (r .view) (r .offer) to ++ (made-echo g me (r .view) (r .proposal) to ++
-  (made-vote g me 6 r to ++ (made-vote g me 7 r to ++ (made-vote g me 8 r to ++ made-vote g me 9 r to)))))
+    (proof-msg g me (r .view) (r .proof) to ∷ []) ++ (made-offer g me (r .view) (r .offer) to ++ (made-echo g me (r .view) (r .proposal) to ++
+    (made-vote g me 6 r to ++ (made-vote g me 7 r to ++ (made-vote g me 8 r to ++ made-vote g me 9 r to)))))
 unfolding made
 made-as g me r to = refl
 
@@ -22,7 +22,7 @@ module _ (g : Setting) (me : ℕ) (p : Party) (m : Msg) where
   after-request b q = record { after = q; posts = cond b (suggest-to g me (p .rec) (m .from) ++ made g me (p .rec) (m .from)) [] }
 
   pub request-answered : (q : Party) → q ≡ with-row p (m .from) (with-request (p .rows (m .from)) (m .view)) → m .view ≡ p .rec .view →
-    on-request g me p m ≡ record { after = q; posts = suggest-to g me (p .rec) (m .from) ++ made g me (p .rec) (m .from) }
+      on-request g me p m ≡ record { after = q; posts = suggest-to g me (p .rec) (m .from) ++ made g me (p .rec) (m .from) }
   unfolding on-request
   request-answered q e h = ap (after-request (eqb (m .view) (p .rec .view))) (sym e) ∙ ap (λ b. after-request b q) (eq-eqb (m .view) (p .rec .view) h)
 

@@ -68,7 +68,13 @@ fn post_echo<V: Value, W: Wire<V>>(seat: Seat, own: &Record<V>, w: &mut W, to: u
 }
 
 // Posts key1, key2, key3 or lock (6 to 9), where it was made in this view.
-fn post_vote<V: Value, W: Wire<V>>(seat: Seat, own: &Record<V>, w: &mut W, kind: u8, to: u8) -> usize
+fn post_vote<V: Value, W: Wire<V>>(
+    seat: Seat,
+    own: &Record<V>,
+    w: &mut W,
+    kind: u8,
+    to: u8,
+) -> usize
     requires kinds { ⌜ (6 ≤ kind) × (kind ≤ 9) ⌝ }
     requires taken { ⌜ Takes valid width (capacity (now w)) (waiting (now w)) (made-vote (setting-of width allows seat) (seat .me) kind (record-of bytes (now own)) to) ⌝ }
     ensures { λ r. ⌜ Posted (waiting (now (w .entry))) (waiting (now (w .exit))) (capacity (now (w .entry))) (capacity (now (w .exit))) r (made-vote (setting-of width allows seat) (seat .me) kind (record-of bytes (now (own .entry))) to) ⌝ }
@@ -108,7 +114,13 @@ fn post_made<V: Value, W: Wire<V>>(seat: Seat, own: &Record<V>, w: &mut W, to: u
 }
 
 // Stores a request; one for the party's view is answered.
-pub fn on_request<V: Value, W: Wire<V>>(seat: Seat, own: &Record<V>, rows: &mut [Row<V>], w: &mut W, m: &Message<V>) -> usize
+pub fn on_request<V: Value, W: Wire<V>>(
+    seat: Seat,
+    own: &Record<V>,
+    rows: &mut [Row<V>],
+    w: &mut W,
+    m: &Message<V>,
+) -> usize
     requires whole { ⌜ (length (now rows) ≡ seat .n) × (1 ≤ now m .from) × (now m .from ≤ seat .n) ⌝ }
     requires taken { ⌜ Takes valid width (capacity (now w)) (waiting (now w)) (on-request (setting-of width allows seat) (seat .me) (party-of bytes (now own) (now rows)) (message bytes (now m)) .posts) ⌝ }
     ensures { λ r. ⌜ Does (on-request (setting-of width allows seat) (seat .me) (party-of bytes (now (own .entry)) (now (rows .entry))) (message bytes (now (m .entry)))) (party-of bytes (now (own .entry)) (now (rows .exit))) (waiting (now (w .entry))) (waiting (now (w .exit))) (capacity (now (w .entry))) (capacity (now (w .exit))) r ⌝ }

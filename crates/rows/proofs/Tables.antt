@@ -46,9 +46,9 @@ module _ {V : Type 0} (bytes : V → List ℕ) (row : Row V) (v : V) where
 
   -- a row whose votes are those of another with one changed
   pub with-votes : (votes : ℕ → Option (List ℕ)) (k kind : ℕ) → k ≡ kind → ((j : ℕ) → votes j ≡ upd (vote-of bytes row) k (Some (bytes v)) j) →
-    _≡_ {A = model.Row}
+      _≡_ {A = model.Row}
       (record { request = row .request; abort = row .abort; done = row-of bytes row .done; suggest = row-of bytes row .suggest; proof = row-of bytes row .proof; vote = votes })
       (with-vote (row-of bytes row) kind (bytes v))
   with-votes votes k kind e h =
-    ap (λ t. record { request = row .request; abort = row .abort; done = row-of bytes row .done; suggest = row-of bytes row .suggest; proof = row-of bytes row .proof; vote = t }) (fun-ext h) ∙
-    ap (λ i. with-vote (row-of bytes row) i (bytes v)) e
+      ap (λ t. record { request = row .request; abort = row .abort; done = row-of bytes row .done; suggest = row-of bytes row .suggest; proof = row-of bytes row .proof; vote = t }) (fun-ext h) ∙
+      ap (λ i. with-vote (row-of bytes row) i (bytes v)) e

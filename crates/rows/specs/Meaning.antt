@@ -43,8 +43,8 @@ module _ {V : Type 0} (bytes : V → List ℕ) where
   abbrev pub field-of : Record V → ℕ → model.Keyed
   field-of r k =
       cond (eqb k 6) (keyed-of (r .key1))
-        (cond (eqb k 7) (keyed-of (r .key2))
-          (cond (eqb k 8) (keyed-of (r .key3)) (cond (eqb k 9) (keyed-of (r .lock)) (record { at = 0; value = [] }))))
+      (cond (eqb k 7) (keyed-of (r .key2))
+      (cond (eqb k 8) (keyed-of (r .key3)) (cond (eqb k 9) (keyed-of (r .lock)) (record { at = 0; value = [] }))))
 
   -- a previous key by its kind
   abbrev pub previous-of : Record V → ℕ → Option ℕ
@@ -53,23 +53,34 @@ module _ {V : Type 0} (bytes : V → List ℕ) where
   abbrev pub record-of : Record V → model.Record
   record-of r =
       record {
-        view = r .view; field = field-of r; previous = previous-of r; decision = mapped bytes (r .decision); done = mapped bytes (r .done);
-        suggest = suggest-of (r .suggest); proof = proof-of (r .proof); offer = mapped keyed-of (r .offer); proposal = proposal-of (r .proposal)
+        view = r .view;
+        field = field-of r;
+        previous = previous-of r;
+        decision = mapped bytes (r .decision);
+        done = mapped bytes (r .done);
+        suggest = suggest-of (r .suggest);
+        proof = proof-of (r .proof);
+        offer = mapped keyed-of (r .offer);
+        proposal = proposal-of (r .proposal);
       }
 
   -- a vote by its kind
   abbrev pub vote-of : Row V → ℕ → Option (List ℕ)
   vote-of r k =
       cond (eqb k 5) (mapped bytes (r .echo))
-        (cond (eqb k 6) (mapped bytes (r .key1))
-          (cond (eqb k 7) (mapped bytes (r .key2))
-            (cond (eqb k 8) (mapped bytes (r .key3)) (cond (eqb k 9) (mapped bytes (r .lock)) None))))
+      (cond (eqb k 6) (mapped bytes (r .key1))
+      (cond (eqb k 7) (mapped bytes (r .key2))
+      (cond (eqb k 8) (mapped bytes (r .key3)) (cond (eqb k 9) (mapped bytes (r .lock)) None))))
 
   abbrev pub row-of : Row V → model.Row
   row-of r =
       record {
-        request = r .request; abort = r .abort; done = mapped bytes (r .done); suggest = mapped suggest-of (r .suggest);
-        proof = mapped proof-of (r .proof); vote = vote-of r
+        request = r .request;
+        abort = r .abort;
+        done = mapped bytes (r .done);
+        suggest = mapped suggest-of (r .suggest);
+        proof = mapped proof-of (r .proof);
+        vote = vote-of r;
       }
 
   -- the rows by sender, from 1; no other number has one

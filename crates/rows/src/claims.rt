@@ -57,7 +57,8 @@ pub impl<V: Value> Claim<V> for Opens<V> as OpensClaim {
         if !below_key(p.previous, p.key1.at) || p.key1.at >= self.view {
             return false;
         }
-        at_most(self.lock.at, p.previous) || self.lock.at <= p.key1.at && !p.key1.value.same(&self.lock.value)
+        at_most(self.lock.at, p.previous)
+            || self.lock.at <= p.key1.at && !p.key1.value.same(&self.lock.value)
     }
 }
 
@@ -78,7 +79,8 @@ pub impl<V: Value> Claim<V> for BearsOut<V> as BearsOutClaim {
         if !below_key(s.previous, s.key2.at) || s.key2.at >= self.view {
             return false;
         }
-        at_most(self.key.at, s.previous) || self.key.at <= s.key2.at && s.key2.value.same(&self.key.value)
+        at_most(self.key.at, s.previous)
+            || self.key.at <= s.key2.at && s.key2.value.same(&self.key.value)
     }
 }
 

@@ -34,16 +34,27 @@ pub fn move_field<V: Value>(own: &mut Record<V>, kind: u8, value: &V)
     ensures { λ _. ⌜ ((g : Setting) (me : ℕ) → record-of bytes (now (own .exit)) ≡ moved g me (record-of bytes (now (own .entry))) kind (bytes (now (value .entry)))) ⌝ }
 {
     let old = *own;
-    let moved = Keyed { at: old.view, value: *value };
+    let moved = Keyed {
+        at: old.view,
+        value: *value,
+    };
     match kind {
         6 if !old.key1.value.same(value) => {
-            *own = Record { key1: moved, previous_key1: Some(old.key1.at), ..old };
+            *own = Record {
+                key1: moved,
+                previous_key1: Some(old.key1.at),
+                ..old
+            };
         }
         6 => {
             *own = Record { key1: moved, ..old };
         }
         7 if !old.key2.value.same(value) => {
-            *own = Record { key2: moved, previous_key2: Some(old.key2.at), ..old };
+            *own = Record {
+                key2: moved,
+                previous_key2: Some(old.key2.at),
+                ..old
+            };
         }
         7 => {
             *own = Record { key2: moved, ..old };
@@ -64,8 +75,15 @@ pub fn enter_view<V: Value>(own: &mut Record<V>, view: u32)
     let old = *own;
     *own = Record {
         view,
-        suggest: Suggest { key3: old.key3, key2: old.key2, previous: old.previous_key2 },
-        proof: Proof { key1: old.key1, previous: old.previous_key1 },
+        suggest: Suggest {
+            key3: old.key3,
+            key2: old.key2,
+            previous: old.previous_key2,
+        },
+        proof: Proof {
+            key1: old.key1,
+            previous: old.previous_key1,
+        },
         offer: None,
         proposal: Proposal::Nothing,
         ..old

@@ -1,11 +1,11 @@
-pub mod seat;
+pub mod claims;
+pub mod clear;
+pub mod fields;
 pub mod keys;
+pub mod notes;
 pub mod record;
 pub mod row;
 pub mod rows;
+pub mod seat;
 pub mod tally;
 pub mod thresholds;
-pub mod claims;
-pub mod notes;
-pub mod clear;
-pub mod fields;

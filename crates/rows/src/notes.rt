@@ -18,7 +18,14 @@ pub fn note_request<V: Value>(rows: &mut [Row<V>], from: u8, view: u32)
     ensures { λ _. ⌜ rows-of bytes (now (rows .exit)) ≡ upd (rows-of bytes (now (rows .entry))) from (with-request (rows-of bytes (now (rows .entry)) from) view) ⌝ }
 {
     let row = row_from(rows, from);
-    put_row(rows, from, &Row { request: view, ..row });
+    put_row(
+        rows,
+        from,
+        &Row {
+            request: view,
+            ..row
+        },
+    );
 }
 
 // The sender's highest abort.
@@ -36,7 +43,14 @@ pub fn note_done<V: Value>(rows: &mut [Row<V>], from: u8, value: &V)
     ensures { λ _. ⌜ rows-of bytes (now (rows .exit)) ≡ upd (rows-of bytes (now (rows .entry))) from (with-told (rows-of bytes (now (rows .entry)) from) (bytes (now (value .entry)))) ⌝ }
 {
     let row = row_from(rows, from);
-    put_row(rows, from, &Row { done: Some(*value), ..row });
+    put_row(
+        rows,
+        from,
+        &Row {
+            done: Some(*value),
+            ..row
+        },
+    );
 }
 
 // The sender's suggest of this view.
@@ -45,7 +59,14 @@ pub fn note_suggest<V: Value>(rows: &mut [Row<V>], from: u8, suggest: &Suggest<V
     ensures { λ _. ⌜ rows-of bytes (now (rows .exit)) ≡ upd (rows-of bytes (now (rows .entry))) from (with-suggest (rows-of bytes (now (rows .entry)) from) (suggest-of bytes (now (suggest .entry)))) ⌝ }
 {
     let row = row_from(rows, from);
-    put_row(rows, from, &Row { suggest: Some(*suggest), ..row });
+    put_row(
+        rows,
+        from,
+        &Row {
+            suggest: Some(*suggest),
+            ..row
+        },
+    );
 }
 
 // The sender's proof of this view.
@@ -54,7 +75,14 @@ pub fn note_proof<V: Value>(rows: &mut [Row<V>], from: u8, proof: &Proof<V>)
     ensures { λ _. ⌜ rows-of bytes (now (rows .exit)) ≡ upd (rows-of bytes (now (rows .entry))) from (with-proof (rows-of bytes (now (rows .entry)) from) (proof-of bytes (now (proof .entry)))) ⌝ }
 {
     let row = row_from(rows, from);
-    put_row(rows, from, &Row { proof: Some(*proof), ..row });
+    put_row(
+        rows,
+        from,
+        &Row {
+            proof: Some(*proof),
+            ..row
+        },
+    );
 }
 
 // The row with a vote: 5 echo, 6 key1, 7 key2, 8 key3, 9 lock.
@@ -63,11 +91,26 @@ fn voted_row<V: Value>(row: Row<V>, kind: u8, value: &V) -> Row<V>
     ensures { λ r. ⌜ row-of bytes r ≡ with-vote (row-of bytes row) kind (bytes (now (value .entry))) ⌝ }
 {
     match kind {
-        5 => Row { echo: Some(*value), ..row },
-        6 => Row { key1: Some(*value), ..row },
-        7 => Row { key2: Some(*value), ..row },
-        8 => Row { key3: Some(*value), ..row },
-        _ => Row { lock: Some(*value), ..row },
+        5 => Row {
+            echo: Some(*value),
+            ..row
+        },
+        6 => Row {
+            key1: Some(*value),
+            ..row
+        },
+        7 => Row {
+            key2: Some(*value),
+            ..row
+        },
+        8 => Row {
+            key3: Some(*value),
+            ..row
+        },
+        _ => Row {
+            lock: Some(*value),
+            ..row
+        },
     }
 }
 

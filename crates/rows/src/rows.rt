@@ -20,5 +20,6 @@ pub fn put_row<V: Value>(rows: &mut [Row<V>], from: u8, row: &Row<V>)
     requires { ⌜ (1 ≤ from) × (from ≤ length (now rows)) ⌝ }
     ensures { λ _. ⌜ rows-of bytes (now (rows .exit)) ≡ upd (rows-of bytes (now (rows .entry))) from (row-of bytes (now (row .entry))) ⌝ }
 {
-    rows[from as usize - 1] = *row;
+    let i = from as usize - 1;
+    rows[i] = *row;
 }

@@ -28,21 +28,21 @@ use Rattle.posting.specs.Posting.{Takes}
 
 -- the four fields, all alike, are the first fields
 pub four-alike : (x : List ℕ) (j : ℕ) →
-  _≡_ {A = model.Keyed}
+    _≡_ {A = model.Keyed}
     (cond (eqb j 6) (record { at = 0; value = x }) (cond (eqb j 7) (record { at = 0; value = x }) (cond (eqb j 8) (record { at = 0; value = x }) (cond (eqb j 9) (record { at = 0; value = x }) (record { at = 0; value = [] })))))
     (first-field x j)
 four-alike x j =
     elim (cases-eq j 6) [
-      inl q ↦ rw q
-    | inr q ↦ elim (cases-eq j 7) [
-        inl r ↦ rw r
-      | inr r ↦ elim (cases-eq j 8) [
-          inl s ↦ rw s
-        | inr s ↦ elim (cases-eq j 9) [
-            inl t ↦ rw t
-          | inr t ↦
-            let b : between 6 9 j ≡ false = grind (arith, tells) in
-            rw (ne-eqb j 6 q, ne-eqb j 7 r, ne-eqb j 8 s, ne-eqb j 9 t, b)
+      | inl q ↦ rw q
+      | inr q ↦ elim (cases-eq j 7) [
+        | inl r ↦ rw r
+        | inr r ↦ elim (cases-eq j 8) [
+          | inl s ↦ rw s
+          | inr s ↦ elim (cases-eq j 9) [
+            | inl t ↦ rw t
+            | inr t ↦
+                let b : between 6 9 j ≡ false = grind (arith, tells) in
+                rw (ne-eqb j 6 q, ne-eqb j 7 r, ne-eqb j 8 s, ne-eqb j 9 t, b)
           ]
         ]
       ]
@@ -62,11 +62,11 @@ five-alike false false false false false = refl
 module _ {V : Type 0} (bytes : V → List ℕ) where
   abbrev pub blank-row : Row V
   blank-row =
-    record { request = 0; abort = 0; done = None; suggest = None; proof = None; echo = None; key1 = None; key2 = None; key3 = None; lock = None }
+      record { request = 0; abort = 0; done = None; suggest = None; proof = None; echo = None; key1 = None; key2 = None; key3 = None; lock = None }
 
   blank-means : row-of bytes blank-row ≡ empty-row
   blank-means =
-    ap (λ t. record { request = 0; abort = 0; done = None; suggest = None; proof = None; vote = t })
+      ap (λ t. record { request = 0; abort = 0; done = None; suggest = None; proof = None; vote = t })
       (fun-ext (λ k. five-alike (eqb k 5) (eqb k 6) (eqb k 7) (eqb k 8) (eqb k 9)))
 
   at-index : (rs : List (Row V)) (i : ℕ) → getD (map (row-of bytes) (map (λ _. blank-row) rs)) i empty-row ≡ empty-row
@@ -111,10 +111,10 @@ first-posts g me x =
     (ap length (append-nil (to-each (λ _. true) what (g .n))) ∙ all-go what (g .n))
 
 pub takes-first-posts : (valid : List ℕ → Bool) (g : Setting) (me capacity : ℕ) (old posts : List Msg) → g .n ≤ 64 → All (Own-post valid g me) posts → length posts ≡ g .n →
-  length old + g .n ≤ capacity → Takes valid (g .width) capacity old posts
+    length old + g .n ≤ capacity → Takes valid (g .width) capacity old posts
 takes-first-posts valid g me capacity old posts h a f r =
     record {
       ranged = all-weaker (Own-post valid g me) (λ m. in-range valid (g .width) m ≡ true) (λ m o. o .range) posts a;
       room = omega (arith, f, r);
-      few = omega (arith, f, h)
+      few = omega (arith, f, h);
     }

@@ -22,12 +22,12 @@ use Rattle.posting.proofs.Choosing.{passed, failed}
 module _ (g : Setting) (me : ℕ) (p : Party) (v : ℕ) where
   abbrev pub in-view : Party → Step
   in-view q =
-    record {
-      after = q;
-      posts = to-all g me (view-msg g me 1 v) ++
-        (cond (eqb (q .rows (primary g (q .rec .view)) .request) (q .rec .view)) (suggest-msg g me (q .rec .view) (q .rec .suggest) (primary g (q .rec .view)) ∷ []) [] ++
-        to-joined g me q (proof-msg g me (q .rec .view) (q .rec .proof)))
-    }
+      record {
+        after = q;
+        posts = to-all g me (view-msg g me 1 v) ++
+            (cond (eqb (q .rows (primary g (q .rec .view)) .request) (q .rec .view)) (suggest-msg g me (q .rec .view) (q .rec .suggest) (primary g (q .rec .view)) ∷ []) [] ++
+            to-joined g me q (proof-msg g me (q .rec .view) (q .rec .proof)));
+      }
 
   pub enter-as : (q : Party) → q ≡ record { rec = entered g me (p .rec) v; rows = λ j. cleared (p .rows j) } → enter g me p v ≡ in-view q
   unfolding enter
@@ -38,35 +38,35 @@ module _ (g : Setting) (me : ℕ) (p : Party) where
   pub abort-joined : (mine view : ℕ) → mine ≡ aborts g me p me → view ≡ vouched g (aborts g me p) → mine < view → join-abort g me p ≡ say-abort g me p view
   unfolding join-abort
   abort-joined mine view e f h =
-    let u = vouched g (aborts g me p) in
-    passed (ltb (aborts g me p me) u) (say-abort g me p u) (still p) (sym (lt-ltb mine view h) ∙ (ap (λ x. ltb x view) e ∙ ap (ltb (aborts g me p me)) f)) ∙
-    ap (say-abort g me p) (sym f)
+      let u = vouched g (aborts g me p) in
+      passed (ltb (aborts g me p me) u) (say-abort g me p u) (still p) (sym (lt-ltb mine view h) ∙ (ap (λ x. ltb x view) e ∙ ap (ltb (aborts g me p me)) f)) ∙
+      ap (say-abort g me p) (sym f)
 
   pub abort-not-joined : (mine view : ℕ) → mine ≡ aborts g me p me → view ≡ vouched g (aborts g me p) → view ≤ mine → join-abort g me p ≡ still p
   unfolding join-abort
   abort-not-joined mine view e f h =
-    let u = vouched g (aborts g me p) in
-    failed (ltb (aborts g me p me) u) (say-abort g me p u) (still p) (sym (le-ltb mine view h) ∙ (ap (λ x. ltb x view) e ∙ ap (ltb (aborts g me p me)) f))
+      let u = vouched g (aborts g me p) in
+      failed (ltb (aborts g me p me) u) (say-abort g me p u) (still p) (sym (le-ltb mine view h) ∙ (ap (λ x. ltb x view) e ∙ ap (ltb (aborts g me p me)) f))
 
   pub view-left : (view : ℕ) → view ≡ reached g (aborts g me p) → p .rec .view ≤ view → leave g me p ≡ enter g me p (view + 1)
   unfolding leave
   view-left view f h =
-    let u = reached g (aborts g me p) in
-    passed (leb (p .rec .view) u) (enter g me p (suc u)) (still p) (sym (le-leb (p .rec .view) view h) ∙ ap (leb (p .rec .view)) f) ∙
-    (ap (λ x. enter g me p (suc x)) (sym f) ∙ ap (enter g me p) (sym (add-one view)))
+      let u = reached g (aborts g me p) in
+      passed (leb (p .rec .view) u) (enter g me p (suc u)) (still p) (sym (le-leb (p .rec .view) view h) ∙ ap (leb (p .rec .view)) f) ∙
+      (ap (λ x. enter g me p (suc x)) (sym f) ∙ ap (enter g me p) (sym (add-one view)))
 
   pub view-kept : (view : ℕ) → view ≡ reached g (aborts g me p) → view < p .rec .view → leave g me p ≡ still p
   unfolding leave
   view-kept view f h =
-    let u = reached g (aborts g me p) in
-    failed (leb (p .rec .view) u) (enter g me p (suc u)) (still p) (sym (lt-leb (p .rec .view) view h) ∙ ap (leb (p .rec .view)) f)
+      let u = reached g (aborts g me p) in
+      failed (leb (p .rec .view) u) (enter g me p (suc u)) (still p) (sym (lt-leb (p .rec .view) view h) ∙ ap (leb (p .rec .view)) f)
 
   pub abort-both : (m : Msg) (q : Party) (old view : ℕ) → q ≡ with-row p (m .from) (with-abort (p .rows (m .from)) view) → view ≡ max old (m .view) → old ≡ p .rows (m .from) .abort →
-    on-abort g me p m ≡ and-then (join-abort g me q) (leave g me)
+      on-abort g me p m ≡ and-then (join-abort g me q) (leave g me)
   unfolding on-abort
   abort-both m q old view e f h =
-    let f′ : view ≡ max (p .rows (m .from) .abort) (m .view) = f ∙ ap (λ x. max x (m .view)) h in
-    ap (λ x. and-then (join-abort g me x) (leave g me)) (sym (e ∙ ap (λ x. with-row p (m .from) (with-abort (p .rows (m .from)) x)) f′))
+      let f′ : view ≡ max (p .rows (m .from) .abort) (m .view) = f ∙ ap (λ x. max x (m .view)) h in
+      ap (λ x. and-then (join-abort g me x) (leave g me)) (sym (e ∙ ap (λ x. with-row p (m .from) (with-abort (p .rows (m .from)) x)) f′))
 
   pub timer-both : on-timer g me p ≡ and-then (timed-out g me p) (leave g me)
   unfolding on-timer
@@ -88,7 +88,7 @@ last-one P what zero h a = absurd (omega arith)
 last-one P what (suc k) h a = all-right P (to-each (λ _. true) what k) (what (suc k) ∷ []) a .0
 
 pub view-bound : (g : Setting) (me : ℕ) (p : Party) {valid : List ℕ → Bool} {width capacity : ℕ} {old : List Msg} (v : ℕ) → 1 ≤ g .n →
-  Takes valid width capacity old (enter g me p v .posts) → v ≤ last-view
+    Takes valid width capacity old (enter g me p v .posts) → v ≤ last-view
 unfolding enter
 view-bound g me p {valid} {width} {capacity} {old} v h t =
     let P : Msg → Type 0 = λ m. in-range valid width m ≡ true in

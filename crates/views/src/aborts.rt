@@ -7,9 +7,9 @@ ghost use Rattle.rules.specs.Step.{say-abort, join-abort, leave, on-abort, on-t
 ghost use Rattle.rows.specs.Meaning.{setting-of, party-of};
 ghost use Rattle.views.specs.Timer.{timed-out};
 ghost use Rattle.posting.specs.Posting.{Takes, Does};
+use crate::entry::enter;
 use checks::aborts::agreed_abort;
 use checks::aborts::vouched_abort;
-use crate::entry::enter;
 use messages::message::Message;
 use posting::sends::send_view;
 use rows::notes::note_abort;
@@ -21,7 +21,13 @@ use values::value::Value;
 use wires::wire::Wire;
 
 // Sends abort of a view, and raises the own entry to it.
-fn tell_abort<V: Value, W: Wire<V>>(seat: Seat, own: &Record<V>, rows: &mut [Row<V>], w: &mut W, view: u32) -> usize
+fn tell_abort<V: Value, W: Wire<V>>(
+    seat: Seat,
+    own: &Record<V>,
+    rows: &mut [Row<V>],
+    w: &mut W,
+    view: u32,
+) -> usize
     requires whole { ⌜ length (now rows) ≡ seat .n ⌝ }
     requires taken { ⌜ Takes valid width (capacity (now w)) (waiting (now w)) (say-abort (setting-of width allows seat) (seat .me) (party-of bytes (now own) (now rows)) view .posts) ⌝ }
     ensures { λ r. ⌜ Does (say-abort (setting-of width allows seat) (seat .me) (party-of bytes (now (own .entry)) (now (rows .entry))) view) (party-of bytes (now (own .entry)) (now (rows .exit))) (waiting (now (w .entry))) (waiting (now (w .exit))) (capacity (now (w .entry))) (capacity (now (w .exit))) r ⌝ }
@@ -32,7 +38,12 @@ fn tell_abort<V: Value, W: Wire<V>>(seat: Seat, own: &Record<V>, rows: &mut [Row
 }
 
 // Follows what a voucher has reached, where that exceeds the own entry.
-fn follow_abort<V: Value, W: Wire<V>>(seat: Seat, own: &Record<V>, rows: &mut [Row<V>], w: &mut W) -> usize
+fn follow_abort<V: Value, W: Wire<V>>(
+    seat: Seat,
+    own: &Record<V>,
+    rows: &mut [Row<V>],
+    w: &mut W,
+) -> usize
     requires whole { ⌜ length (now rows) ≡ seat .n ⌝ }
     requires taken { ⌜ Takes valid width (capacity (now w)) (waiting (now w)) (join-abort (setting-of width allows seat) (seat .me) (party-of bytes (now own) (now rows)) .posts) ⌝ }
     ensures { λ r. ⌜ Does (join-abort (setting-of width allows seat) (seat .me) (party-of bytes (now (own .entry)) (now (rows .entry)))) (party-of bytes (now (own .entry)) (now (rows .exit))) (waiting (now (w .entry))) (waiting (now (w .exit))) (capacity (now (w .entry))) (capacity (now (w .exit))) r ⌝ }
@@ -47,7 +58,12 @@ fn follow_abort<V: Value, W: Wire<V>>(seat: Seat, own: &Record<V>, rows: &mut [R
 }
 
 // Sends abort of the view, if the own entry is below it.
-fn give_up<V: Value, W: Wire<V>>(seat: Seat, own: &Record<V>, rows: &mut [Row<V>], w: &mut W) -> usize
+fn give_up<V: Value, W: Wire<V>>(
+    seat: Seat,
+    own: &Record<V>,
+    rows: &mut [Row<V>],
+    w: &mut W,
+) -> usize
     requires whole { ⌜ length (now rows) ≡ seat .n ⌝ }
     requires taken { ⌜ Takes valid width (capacity (now w)) (waiting (now w)) (timed-out (setting-of width allows seat) (seat .me) (party-of bytes (now own) (now rows)) .posts) ⌝ }
     ensures { λ r. ⌜ Does (timed-out (setting-of width allows seat) (seat .me) (party-of bytes (now (own .entry)) (now (rows .entry)))) (party-of bytes (now (own .entry)) (now (rows .exit))) (waiting (now (w .entry))) (waiting (now (w .exit))) (capacity (now (w .entry))) (capacity (now (w .exit))) r ⌝ }
@@ -61,7 +77,12 @@ fn give_up<V: Value, W: Wire<V>>(seat: Seat, own: &Record<V>, rows: &mut [Row<V>
 }
 
 // Leaves the view once a quorum has given it up, for the view after the one that the quorum has reached.
-fn leave_view<V: Value, W: Wire<V>>(seat: Seat, own: &mut Record<V>, rows: &mut [Row<V>], w: &mut W) -> usize
+fn leave_view<V: Value, W: Wire<V>>(
+    seat: Seat,
+    own: &mut Record<V>,
+    rows: &mut [Row<V>],
+    w: &mut W,
+) -> usize
     requires whole { ⌜ length (now rows) ≡ seat .n ⌝ }
     requires taken { ⌜ Takes valid width (capacity (now w)) (waiting (now w)) (leave (setting-of width allows seat) (seat .me) (party-of bytes (now own) (now rows)) .posts) ⌝ }
     ensures { λ r. ⌜ Does (leave (setting-of width allows seat) (seat .me) (party-of bytes (now (own .entry)) (now (rows .entry)))) (party-of bytes (now (own .exit)) (now (rows .exit))) (waiting (now (w .entry))) (waiting (now (w .exit))) (capacity (now (w .entry))) (capacity (now (w .exit))) r ⌝ }
@@ -75,7 +96,13 @@ fn leave_view<V: Value, W: Wire<V>>(seat: Seat, own: &mut Record<V>, rows: &mut 
 }
 
 // An abort raises the sender's entry; then the two tests, in this order.
-pub fn on_abort<V: Value, W: Wire<V>>(seat: Seat, own: &mut Record<V>, rows: &mut [Row<V>], w: &mut W, m: &Message<V>) -> usize
+pub fn on_abort<V: Value, W: Wire<V>>(
+    seat: Seat,
+    own: &mut Record<V>,
+    rows: &mut [Row<V>],
+    w: &mut W,
+    m: &Message<V>,
+) -> usize
     requires whole { ⌜ (length (now rows) ≡ seat .n) × (1 ≤ now m .from) × (now m .from ≤ seat .n) ⌝ }
     requires taken { ⌜ Takes valid width (capacity (now w)) (waiting (now w)) (on-abort (setting-of width allows seat) (seat .me) (party-of bytes (now own) (now rows)) (message bytes (now m)) .posts) ⌝ }
     ensures { λ r. ⌜ Does (on-abort (setting-of width allows seat) (seat .me) (party-of bytes (now (own .entry)) (now (rows .entry))) (message bytes (now (m .entry)))) (party-of bytes (now (own .exit)) (now (rows .exit))) (waiting (now (w .entry))) (waiting (now (w .exit))) (capacity (now (w .entry))) (capacity (now (w .exit))) r ⌝ }
@@ -88,7 +115,12 @@ pub fn on_abort<V: Value, W: Wire<V>>(seat: Seat, own: &mut Record<V>, rows: &mu
 }
 
 // The timer gives the view up; then the test on a quorum.
-pub fn on_time_out<V: Value, W: Wire<V>>(seat: Seat, own: &mut Record<V>, rows: &mut [Row<V>], w: &mut W) -> usize
+pub fn on_time_out<V: Value, W: Wire<V>>(
+    seat: Seat,
+    own: &mut Record<V>,
+    rows: &mut [Row<V>],
+    w: &mut W,
+) -> usize
     requires whole { ⌜ length (now rows) ≡ seat .n ⌝ }
     requires taken { ⌜ Takes valid width (capacity (now w)) (waiting (now w)) (on-timer (setting-of width allows seat) (seat .me) (party-of bytes (now own) (now rows)) .posts) ⌝ }
     ensures { λ r. ⌜ Does (on-timer (setting-of width allows seat) (seat .me) (party-of bytes (now (own .entry)) (now (rows .entry)))) (party-of bytes (now (own .exit)) (now (rows .exit))) (waiting (now (w .entry))) (waiting (now (w .exit))) (capacity (now (w .entry))) (capacity (now (w .exit))) r ⌝ }

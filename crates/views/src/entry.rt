@@ -24,7 +24,12 @@ use values::value::Value;
 use wires::wire::Wire;
 
 // Posts the suggest to the primary of the view, if its highest request equals the view.
-fn suggest_primary<V: Value, W: Wire<V>>(seat: Seat, own: &Record<V>, rows: &[Row<V>], w: &mut W) -> usize
+fn suggest_primary<V: Value, W: Wire<V>>(
+    seat: Seat,
+    own: &Record<V>,
+    rows: &[Row<V>],
+    w: &mut W,
+) -> usize
     requires whole { ⌜ length (now rows) ≡ seat .n ⌝ }
     requires taken { ⌜ Takes valid width (capacity (now w)) (waiting (now w)) (cond (eqb (rows-of bytes (now rows) (leader (setting-of width allows seat) (now own .view)) .request) (now own .view)) (suggest-msg (setting-of width allows seat) (seat .me) (now own .view) (record-of bytes (now own) .suggest) (leader (setting-of width allows seat) (now own .view)) ∷ []) []) ⌝ }
     ensures { λ r. ⌜ Posted (waiting (now (w .entry))) (waiting (now (w .exit))) (capacity (now (w .entry))) (capacity (now (w .exit))) r (cond (eqb (rows-of bytes (now (rows .entry)) (leader (setting-of width allows seat) (now (own .entry) .view)) .request) (now (own .entry) .view)) (suggest-msg (setting-of width allows seat) (seat .me) (now (own .entry) .view) (record-of bytes (now (own .entry)) .suggest) (leader (setting-of width allows seat) (now (own .entry) .view)) ∷ []) []) ⌝ }
@@ -41,7 +46,13 @@ fn suggest_primary<V: Value, W: Wire<V>>(seat: Seat, own: &Record<V>, rows: &[Ro
 
 // Enters a view: the view's part of the rows is emptied and the contents of suggest and proof are fixed; then the
 // request goes to all, the suggest to the primary and the proof to those that have joined.
-pub fn enter<V: Value, W: Wire<V>>(seat: Seat, own: &mut Record<V>, rows: &mut [Row<V>], w: &mut W, view: u32) -> usize
+pub fn enter<V: Value, W: Wire<V>>(
+    seat: Seat,
+    own: &mut Record<V>,
+    rows: &mut [Row<V>],
+    w: &mut W,
+    view: u32,
+) -> usize
     requires whole { ⌜ length (now rows) ≡ seat .n ⌝ }
     requires taken { ⌜ Takes valid width (capacity (now w)) (waiting (now w)) (entering (setting-of width allows seat) (seat .me) (party-of bytes (now own) (now rows)) view .posts) ⌝ }
     ensures { λ r. ⌜ Does (entering (setting-of width allows seat) (seat .me) (party-of bytes (now (own .entry)) (now (rows .entry))) view) (party-of bytes (now (own .exit)) (now (rows .exit))) (waiting (now (w .entry))) (waiting (now (w .exit))) (capacity (now (w .entry))) (capacity (now (w .exit))) r ⌝ }

@@ -1,3 +1,3 @@
-pub mod entry;
 pub mod aborts;
+pub mod entry;
 pub mod start;

@@ -22,7 +22,10 @@ use wires::wire::Wire;
 fn new_record<V: Value>(value: &V) -> Record<V>
     ensures { λ r. ⌜ record-of bytes r ≡ newcomer (bytes (now (value .entry))) .rec ⌝ }
 {
-    let never = Keyed { at: 0, value: *value };
+    let never = Keyed {
+        at: 0,
+        value: *value,
+    };
     Record {
         view: 1,
         lock: never,
@@ -33,8 +36,15 @@ fn new_record<V: Value>(value: &V) -> Record<V>
         previous_key2: None,
         decision: None,
         done: None,
-        suggest: Suggest { key3: never, key2: never, previous: None },
-        proof: Proof { key1: never, previous: None },
+        suggest: Suggest {
+            key3: never,
+            key2: never,
+            previous: None,
+        },
+        proof: Proof {
+            key1: never,
+            previous: None,
+        },
         offer: None,
         proposal: Proposal::Nothing,
     }
@@ -45,12 +55,29 @@ fn empty_rows<V: Value>(rows: &mut [Row<V>])
     ensures { λ _. ⌜ rows-of bytes (now (rows .exit)) ≡ (λ _. empty-row) ⌝ }
 {
     for row in rows.iter_mut() {
-        *row = Row { request: 0, abort: 0, done: None, suggest: None, proof: None, echo: None, key1: None, key2: None, key3: None, lock: None };
+        *row = Row {
+            request: 0,
+            abort: 0,
+            done: None,
+            suggest: None,
+            proof: None,
+            echo: None,
+            key1: None,
+            key2: None,
+            key3: None,
+            lock: None,
+        };
     }
 }
 
 // Sets a party up with its own value: it enters view 1, and posts its request to all.
-pub fn start<V: Value, W: Wire<V>>(seat: Seat, own: &mut Record<V>, rows: &mut [Row<V>], w: &mut W, value: &V) -> usize
+pub fn start<V: Value, W: Wire<V>>(
+    seat: Seat,
+    own: &mut Record<V>,
+    rows: &mut [Row<V>],
+    w: &mut W,
+    value: &V,
+) -> usize
     requires whole { ⌜ length (now rows) ≡ seat .n ⌝ }
     requires room { ⌜ length (waiting (now w)) + seat .n ≤ capacity (now w) ⌝ }
     ensures step { λ r. ⌜ Does (entering (setting-of width allows seat) (seat .me) (newcomer (bytes (now (value .entry)))) 1) (party-of bytes (now (own .exit)) (now (rows .exit))) (waiting (now (w .entry))) (waiting (now (w .exit))) (capacity (now (w .entry))) (capacity (now (w .exit))) r ⌝ }

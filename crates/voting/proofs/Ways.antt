@@ -22,13 +22,13 @@ module _ (g : Setting) (me : ℕ) (p : Party) (m : Msg) where
   pub vote-announced : (q : Party) → q ≡ told-vote g me p m → true ≡ announce-due g me q (m .kind) (m .value) → on-vote g me p m ≡ announce g me q (m .kind + 1) (m .value)
   unfolding on-vote
   vote-announced q e h =
-    ap after-vote (sym e) ∙ (passed (announce-due g me q (m .kind) (m .value)) (announce g me q (suc (m .kind)) (m .value)) (still q) h ∙
-    ap (λ k. announce g me q k (m .value)) (sym (add-one (m .kind))))
+      ap after-vote (sym e) ∙ (passed (announce-due g me q (m .kind) (m .value)) (announce g me q (suc (m .kind)) (m .value)) (still q) h ∙
+      ap (λ k. announce g me q k (m .value)) (sym (add-one (m .kind))))
 
   pub vote-still : (q : Party) → q ≡ told-vote g me p m → false ≡ announce-due g me q (m .kind) (m .value) → on-vote g me p m ≡ still q
   unfolding on-vote
   vote-still q e h =
-    ap after-vote (sym e) ∙ failed (announce-due g me q (m .kind) (m .value)) (announce g me q (suc (m .kind)) (m .value)) (still q) h
+      ap after-vote (sym e) ∙ failed (announce-due g me q (m .kind) (m .value)) (announce g me q (suc (m .kind)) (m .value)) (still q) h
 
   -- ## A lock
   abbrev after-lock : Party → Step

@@ -30,7 +30,15 @@ fn due_by_locks<V: Value>(seat: Seat, own: &Record<V>, rows: &[Row<V>], value: &
     requires { ⌜ length (now rows) ≡ seat .n ⌝ }
     ensures { λ r. ⌜ r ≡ (none (record-of bytes (now (own .entry)) .done) && voted (setting-of width allows seat) (party-of bytes (now (own .entry)) (now (rows .entry))) 9 (bytes (now (value .entry)))) ⌝ }
 {
-    own.done.is_none() && has_quorum(seat, rows, &Votes { kind: 9, value: *value })
+    own.done.is_none()
+        && has_quorum(
+            seat,
+            rows,
+            &Votes {
+                kind: 9,
+                value: *value,
+            },
+        )
 }
 
 // Whether no done was sent and a voucher is done with the value.
@@ -42,7 +50,13 @@ fn due_by_dones<V: Value>(seat: Seat, own: &Record<V>, rows: &[Row<V>], value: &
 }
 
 // Sends done, and keeps its value.
-fn tell_done<V: Value, W: Wire<V>>(seat: Seat, own: &mut Record<V>, rows: &[Row<V>], w: &mut W, value: &V) -> usize
+fn tell_done<V: Value, W: Wire<V>>(
+    seat: Seat,
+    own: &mut Record<V>,
+    rows: &[Row<V>],
+    w: &mut W,
+    value: &V,
+) -> usize
     requires whole { ⌜ length (now rows) ≡ seat .n ⌝ }
     requires taken { ⌜ Takes valid width (capacity (now w)) (waiting (now w)) (say-done (setting-of width allows seat) (seat .me) (party-of bytes (now own) (now rows)) (bytes (now value)) .posts) ⌝ }
     ensures { λ r. ⌜ Does (say-done (setting-of width allows seat) (seat .me) (party-of bytes (now (own .entry)) (now (rows .entry))) (bytes (now (value .entry)))) (party-of bytes (now (own .exit)) (now (rows .entry))) (waiting (now (w .entry))) (waiting (now (w .exit))) (capacity (now (w .entry))) (capacity (now (w .exit))) r ⌝ }
@@ -53,7 +67,13 @@ fn tell_done<V: Value, W: Wire<V>>(seat: Seat, own: &mut Record<V>, rows: &[Row<
 }
 
 // A lock is stored; with a quorum for its value done is sent, if none was.
-pub fn on_lock<V: Value, W: Wire<V>>(seat: Seat, own: &mut Record<V>, rows: &mut [Row<V>], w: &mut W, m: &Message<V>) -> usize
+pub fn on_lock<V: Value, W: Wire<V>>(
+    seat: Seat,
+    own: &mut Record<V>,
+    rows: &mut [Row<V>],
+    w: &mut W,
+    m: &Message<V>,
+) -> usize
     requires whole { ⌜ (length (now rows) ≡ seat .n) × (1 ≤ now m .from) × (now m .from ≤ seat .n) × (now m .kind ≡ 9) ⌝ }
     requires taken { ⌜ Takes valid width (capacity (now w)) (waiting (now w)) (on-lock (setting-of width allows seat) (seat .me) (party-of bytes (now own) (now rows)) (message bytes (now m)) .posts) ⌝ }
     ensures { λ r. ⌜ Does (on-lock (setting-of width allows seat) (seat .me) (party-of bytes (now (own .entry)) (now (rows .entry))) (message bytes (now (m .entry)))) (party-of bytes (now (own .exit)) (now (rows .exit))) (waiting (now (w .entry))) (waiting (now (w .exit))) (capacity (now (w .entry))) (capacity (now (w .exit))) r ⌝ }
@@ -67,7 +87,13 @@ pub fn on_lock<V: Value, W: Wire<V>>(seat: Seat, own: &mut Record<V>, rows: &mut
 }
 
 // With a voucher for the value done is sent, if none was.
-fn follow_done<V: Value, W: Wire<V>>(seat: Seat, own: &mut Record<V>, rows: &[Row<V>], w: &mut W, value: &V) -> usize
+fn follow_done<V: Value, W: Wire<V>>(
+    seat: Seat,
+    own: &mut Record<V>,
+    rows: &[Row<V>],
+    w: &mut W,
+    value: &V,
+) -> usize
     requires whole { ⌜ length (now rows) ≡ seat .n ⌝ }
     requires taken { ⌜ Takes valid width (capacity (now w)) (waiting (now w)) (join-done (setting-of width allows seat) (seat .me) (party-of bytes (now own) (now rows)) (bytes (now value)) .posts) ⌝ }
     ensures { λ r. ⌜ Does (join-done (setting-of width allows seat) (seat .me) (party-of bytes (now (own .entry)) (now (rows .entry))) (bytes (now (value .entry)))) (party-of bytes (now (own .exit)) (now (rows .entry))) (waiting (now (w .entry))) (waiting (now (w .exit))) (capacity (now (w .entry))) (capacity (now (w .exit))) r ⌝ }
@@ -90,7 +116,13 @@ fn try_decide<V: Value>(seat: Seat, own: &mut Record<V>, rows: &[Row<V>], value:
 }
 
 // A done is stored; then the two tests, in this order.
-pub fn on_done<V: Value, W: Wire<V>>(seat: Seat, own: &mut Record<V>, rows: &mut [Row<V>], w: &mut W, m: &Message<V>) -> usize
+pub fn on_done<V: Value, W: Wire<V>>(
+    seat: Seat,
+    own: &mut Record<V>,
+    rows: &mut [Row<V>],
+    w: &mut W,
+    m: &Message<V>,
+) -> usize
     requires whole { ⌜ (length (now rows) ≡ seat .n) × (1 ≤ now m .from) × (now m .from ≤ seat .n) ⌝ }
     requires taken { ⌜ Takes valid width (capacity (now w)) (waiting (now w)) (on-done (setting-of width allows seat) (seat .me) (party-of bytes (now own) (now rows)) (message bytes (now m)) .posts) ⌝ }
     ensures { λ r. ⌜ Does (on-done (setting-of width allows seat) (seat .me) (party-of bytes (now (own .entry)) (now (rows .entry))) (message bytes (now (m .entry)))) (party-of bytes (now (own .exit)) (now (rows .exit))) (waiting (now (w .entry))) (waiting (now (w .exit))) (capacity (now (w .entry))) (capacity (now (w .exit))) r ⌝ }

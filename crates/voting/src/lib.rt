@@ -1,2 +1,2 @@
-pub mod votes;
 pub mod dones;
+pub mod votes;

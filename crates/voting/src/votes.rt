@@ -25,11 +25,26 @@ fn announce_due<V: Value>(seat: Seat, own: &Record<V>, rows: &[Row<V>], kind: u8
     requires { ⌜ (length (now rows) ≡ seat .n) × (5 ≤ kind) × (kind ≤ 8) ⌝ }
     ensures { λ r. ⌜ r ≡ due (setting-of width allows seat) (seat .me) (party-of bytes (now (own .entry)) (now (rows .entry))) kind (bytes (now (value .entry))) ⌝ }
 {
-    has_quorum(seat, rows, &Votes { kind, value: *value }) && field(own, kind + 1).at < own.view
+    has_quorum(
+        seat,
+        rows,
+        &Votes {
+            kind,
+            value: *value,
+        },
+    )
+        && field(own, kind + 1).at < own.view
 }
 
 // Moves the field of this kind to the view with this value, and makes its message.
-fn announce<V: Value, W: Wire<V>>(seat: Seat, own: &mut Record<V>, rows: &[Row<V>], w: &mut W, kind: u8, value: &V) -> usize
+fn announce<V: Value, W: Wire<V>>(
+    seat: Seat,
+    own: &mut Record<V>,
+    rows: &[Row<V>],
+    w: &mut W,
+    kind: u8,
+    value: &V,
+) -> usize
     requires whole { ⌜ (length (now rows) ≡ seat .n) × (6 ≤ kind) × (kind ≤ 9) ⌝ }
     requires taken { ⌜ Takes valid width (capacity (now w)) (waiting (now w)) (announced (setting-of width allows seat) (seat .me) (party-of bytes (now own) (now rows)) kind (bytes (now value)) .posts) ⌝ }
     ensures { λ r. ⌜ Does (announced (setting-of width allows seat) (seat .me) (party-of bytes (now (own .entry)) (now (rows .entry))) kind (bytes (now (value .entry)))) (party-of bytes (now (own .exit)) (now (rows .entry))) (waiting (now (w .entry))) (waiting (now (w .exit))) (capacity (now (w .entry))) (capacity (now (w .exit))) r ⌝ }
@@ -40,7 +55,13 @@ fn announce<V: Value, W: Wire<V>>(seat: Seat, own: &mut Record<V>, rows: &[Row<V
 }
 
 // A vote is stored; with a quorum for its value the next field moves to the view, once.
-pub fn on_vote<V: Value, W: Wire<V>>(seat: Seat, own: &mut Record<V>, rows: &mut [Row<V>], w: &mut W, m: &Message<V>) -> usize
+pub fn on_vote<V: Value, W: Wire<V>>(
+    seat: Seat,
+    own: &mut Record<V>,
+    rows: &mut [Row<V>],
+    w: &mut W,
+    m: &Message<V>,
+) -> usize
     requires whole { ⌜ (length (now rows) ≡ seat .n) × (1 ≤ now m .from) × (now m .from ≤ seat .n) × (5 ≤ now m .kind) × (now m .kind ≤ 8) ⌝ }
     requires taken { ⌜ Takes valid width (capacity (now w)) (waiting (now w)) (on-vote (setting-of width allows seat) (seat .me) (party-of bytes (now own) (now rows)) (message bytes (now m)) .posts) ⌝ }
     ensures { λ r. ⌜ Does (on-vote (setting-of width allows seat) (seat .me) (party-of bytes (now (own .entry)) (now (rows .entry))) (message bytes (now (m .entry)))) (party-of bytes (now (own .exit)) (now (rows .exit))) (waiting (now (w .entry))) (waiting (now (w .exit))) (capacity (now (w .entry))) (capacity (now (w .exit))) r ⌝ }

@@ -17,8 +17,8 @@ loop-row-again g c =
     let rs = c .args .rows .now in
     let t : ℕ → Bool = λ x. leb (c .args .size) (count (λ j. leb x (rows-of b rs j .abort)) (length rs)) in
     elim (c .if-tally-size .came) [
-      then-tally-size w ↦ largest-more b rs (c .loop-row .row-index) (c .row-item .result) (c .loop-row-test .taken) (c .row-item .is) t (c .loop-row .top) (c .if-tally-size .top) true (sym (le-leb _ _ (w .if-tally-size .taken)) ∙ ap (leb (c .args .size)) (c .tally .ensures)) (c .loop-row .inv) (w .top-is ∙ w .max-top .ensures)
-    | else-tally-size w ↦ largest-more b rs (c .loop-row .row-index) (c .row-item .result) (c .loop-row-test .taken) (c .row-item .is) t (c .loop-row .top) (c .if-tally-size .top) false (sym (lt-leb _ _ (w .if-tally-size .left)) ∙ ap (leb (c .args .size)) (c .tally .ensures)) (c .loop-row .inv) (w .top-is)
+      | then-tally-size w ↦ largest-more b rs (c .loop-row .row-index) (c .row-item .result) (c .loop-row-test .taken) (c .row-item .is) t (c .loop-row .top) (c .if-tally-size .top) true (sym (le-leb _ _ (w .if-tally-size .taken)) ∙ ap (leb (c .args .size)) (c .tally .ensures)) (c .loop-row .inv) (w .top-is ∙ w .max-top .ensures)
+      | else-tally-size w ↦ largest-more b rs (c .loop-row .row-index) (c .row-item .result) (c .loop-row-test .taken) (c .row-item .is) t (c .loop-row .top) (c .if-tally-size .top) false (sym (lt-leb _ _ (w .if-tally-size .left)) ∙ ap (leb (c .args .size)) (c .tally .ensures)) (c .loop-row .inv) (w .top-is)
     ]
 
 pub returns : need.returns

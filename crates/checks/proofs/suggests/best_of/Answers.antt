@@ -14,8 +14,8 @@ loop-row-again g c =
     let s = setting-of (v .width) (v .allows) (c .args .seat) in
     let means = mapped (suggest-of (v .bytes)) in
     elim (c .if-accepts-one .came) [
-      then-accepts-one w ↦ best-more (v .bytes) (c .args .rows .now) (c .loop-row .row-index) (c .row-item .result) (c .loop-row-test .taken) (c .row-item .is) s (c .args .own .now) (means (c .loop-row .top)) (means (c .if-accepts-one .top)) _ (w .if-accepts-one .ensures tt) (c .loop-row .inv) (ap means (w .top-is) ∙ w .higher-of-top .ensures s)
-    | else-accepts-one w ↦ best-more (v .bytes) (c .args .rows .now) (c .loop-row .row-index) (c .row-item .result) (c .loop-row-test .taken) (c .row-item .is) s (c .args .own .now) (means (c .loop-row .top)) (means (c .if-accepts-one .top)) _ (w .if-accepts-one .ensures tt) (c .loop-row .inv) (ap means (w .top-is))
+      | then-accepts-one w ↦ best-more (v .bytes) (c .args .rows .now) (c .loop-row .row-index) (c .row-item .result) (c .loop-row-test .taken) (c .row-item .is) s (c .args .own .now) (means (c .loop-row .top)) (means (c .if-accepts-one .top)) _ (w .if-accepts-one .ensures tt) (c .loop-row .inv) (ap means (w .top-is) ∙ w .higher-of-top .ensures s)
+      | else-accepts-one w ↦ best-more (v .bytes) (c .args .rows .now) (c .loop-row .row-index) (c .row-item .result) (c .loop-row-test .taken) (c .row-item .is) s (c .args .own .now) (means (c .loop-row .top)) (means (c .if-accepts-one .top)) _ (w .if-accepts-one .ensures tt) (c .loop-row .inv) (ap means (w .top-is))
     ]
 
 pub returns : need.returns

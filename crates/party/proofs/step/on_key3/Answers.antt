@@ -22,7 +22,7 @@ on-vote-votes-requires g c κs =
     let m = message (v .bytes) (c .args .m .now) in
     record {
       whole = (c .pre .whole .0, c .pre .whole .1, c .pre .whole .2, omega (arith, c .pre .whole .3), omega (arith, c .pre .whole .3));
-      taken = takes-before (on-vote s me p m) (wake s me) (c .pre .taken)
+      taken = takes-before (on-vote s me p m) (wake s me) (c .pre .taken);
     }
 
 pub wake-proposal-echoes-requires : need.wake-proposal-echoes-requires
@@ -35,7 +35,7 @@ wake-proposal-echoes-requires g c κs =
     let m = message (v .bytes) (c .args .m .now) in
     record {
       whole = (omega (arith, c .pre .whole .0), ap (λ k. eqb k 3 || eqb k 8) (c .pre .whole .3));
-      taken = takes-after (on-vote s me p m) (wake s me) _ (c .pre .taken) (c .on-vote-votes .ensures)
+      taken = takes-after (on-vote s me p m) (wake s me) _ (c .pre .taken) (c .on-vote-votes .ensures);
     }
 
 pub add-result : need.add-result

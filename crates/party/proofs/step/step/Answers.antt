@@ -24,7 +24,7 @@ take-in-requires g c κs =
     let m = message (v .bytes) (c .args .m .now) in
     record {
       whole = (c .pre .whole, c .pre .proper .low, c .pre .proper .high, kind-low (v .valid) (v .width) m (c .pre .proper .range), kind-high (v .valid) (v .width) m (c .pre .proper .range));
-      taken = takes-own (v .valid) s me _ _ _ (c .args .seat .most) (posts-in-range .by-message (v .valid) s me p m seated fits (c .pre .proper)) (posts-few .by-message s me p m) (c .pre .room)
+      taken = takes-own (v .valid) s me _ _ _ (c .args .seat .most) (posts-in-range .by-message (v .valid) s me p m seated fits (c .pre .proper)) (posts-few .by-message s me p m) (c .pre .room);
     }
 
 pub returns : need.returns
@@ -41,5 +41,5 @@ returns g c =
     let m = message (v .bytes) (c .args .m .now) in
     record {
       step = c .take-in .ensures;
-      fits = ap (party-fits n) (c .take-in .ensures .party) ∙ bounds-kept .by-message (v .valid) s me p m seated fits (c .pre .proper) .numbers
+      fits = ap (party-fits n) (c .take-in .ensures .party) ∙ bounds-kept .by-message (v .valid) s me p m seated fits (c .pre .proper) .numbers;
     }

@@ -23,7 +23,7 @@ by-kind-requires g c κs =
     let m = message (v .bytes) (c .args .m .now) in
     record {
       whole = (c .pre .whole .0, c .pre .whole .1, c .pre .whole .2, c .pre .whole .3, c .pre .whole .4, λ k. propose-first s me p m k (c .if-heeds .ensures tt));
-      taken = takes-same _ _ (step-heeded s me p m (c .if-heeds .ensures tt)) (c .pre .taken)
+      taken = takes-same _ _ (step-heeded s me p m (c .if-heeds .ensures tt)) (c .pre .taken);
     }
 
 pub returns-then-heeds : need.returns-then-heeds

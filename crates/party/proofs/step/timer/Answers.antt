@@ -23,7 +23,7 @@ on-time-out-requires g c κs =
     let fits : Fits (v .valid) s p = record { numbers = c .pre .fits; values = all-values (v .bytes) (v .valid) (v .width) (laws .sized) (laws .sound) own (c .args .rows .now) n } in
     record {
       whole = c .pre .whole;
-      taken = takes-own (v .valid) s me _ _ _ (c .args .seat .most) (posts-in-range .by-timer (v .valid) s me p seated fits (c .pre .early)) (posts-few .by-timer s me p) (c .pre .room)
+      taken = takes-own (v .valid) s me _ _ _ (c .args .seat .most) (posts-in-range .by-timer (v .valid) s me p seated fits (c .pre .early)) (posts-few .by-timer s me p) (c .pre .room);
     }
 
 pub returns : need.returns
@@ -39,5 +39,5 @@ returns g c =
     let fits : Fits (v .valid) s p = record { numbers = c .pre .fits; values = all-values (v .bytes) (v .valid) (v .width) (laws .sized) (laws .sound) own (c .args .rows .now) n } in
     record {
       step = c .on-time-out .ensures;
-      fits = ap (party-fits n) (c .on-time-out .ensures .party) ∙ bounds-kept .by-timer (v .valid) s me p seated fits (c .pre .early) .numbers
+      fits = ap (party-fits n) (c .on-time-out .ensures .party) ∙ bounds-kept .by-timer (v .valid) s me p seated fits (c .pre .early) .numbers;
     }

@@ -23,7 +23,7 @@ post-one-posts-requires g c κs =
     let h : c .loop-i .i < c .args .seat .n = omega (arith, c .pre .whole) in
     let h′ : c .loop-i .i < length rs = omega (arith, c .pre .whole) in
     takes-next (λ j. goes (c .args .whom) (rows-of b rs j)) (addressed (message b (c .args .m .now))) (g .V·Value .valid) (g .V·Value .width) _ _ _ _ (c .loop-i .i) (c .args .seat .n) (c .pre .taken) h
-      (ap (goes (c .args .whom)) (row-read b rs (c .loop-i .i) _ h′ (c .index-rows-i .is)) ∙ sym (c .if-goes-to .ensures tt)) (c .loop-i .inv .1 .list) (c .loop-i .inv .1 .kept)
+    (ap (goes (c .args .whom)) (row-read b rs (c .loop-i .i) _ h′ (c .index-rows-i .is)) ∙ sym (c .if-goes-to .ensures tt)) (c .loop-i .inv .1 .list) (c .loop-i .inv .1 .kept)
 
 pub loop-i-again : need.loop-i-again
 loop-i-again g c =
@@ -36,8 +36,8 @@ loop-i-again g c =
     let read = ap (goes (c .args .whom)) (row-read b rs (c .loop-i .i) _ h (c .index-rows-i .is)) in
     let after : g .W .Denot → Type 0 = λ y. Posted (x .waiting (c .args .w .now)) (x .waiting y) (x .capacity (c .args .w .now)) (x .capacity y) (c .if-goes-to .posts) (to-each who what (c .loop-i .i + 1)) in
     elim (c .if-goes-to .came) [
-      then-goes-to w ↦ (omega (arith, w .posts-is, c .loop-i .inv .0, w .post-one-posts .ensures .answer), subst after (sym (w .w-is)) (posted-more who what _ _ _ _ _ _ _ _ _ (c .loop-i .i) (c .loop-i .inv .1) (w .post-one-posts .ensures) (read ∙ sym (w .if-goes-to .ensures tt)) (w .posts-is)))
-    | else-goes-to w ↦ (omega (arith, w .posts-is, c .loop-i .inv .0), subst after (sym (w .w-is)) (posted-same who what _ _ _ _ _ _ (c .loop-i .i) (c .loop-i .inv .1) (read ∙ sym (w .if-goes-to .ensures tt)) (w .posts-is)))
+      | then-goes-to w ↦ (omega (arith, w .posts-is, c .loop-i .inv .0, w .post-one-posts .ensures .answer), subst after (sym (w .w-is)) (posted-more who what _ _ _ _ _ _ _ _ _ (c .loop-i .i) (c .loop-i .inv .1) (w .post-one-posts .ensures) (read ∙ sym (w .if-goes-to .ensures tt)) (w .posts-is)))
+      | else-goes-to w ↦ (omega (arith, w .posts-is, c .loop-i .inv .0), subst after (sym (w .w-is)) (posted-same who what _ _ _ _ _ _ (c .loop-i .i) (c .loop-i .inv .1) (read ∙ sym (w .if-goes-to .ensures tt)) (w .posts-is)))
     ]
 
 pub returns : need.returns

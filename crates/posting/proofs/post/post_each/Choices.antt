@@ -11,4 +11,4 @@ Inv-loop-i g l =
     let b = g .V·Value .bytes in
     let w = g .W·Wire in
     (l .posts ≤ l .i) × Posted (w .waiting (l .entry .w)) (w .waiting (l .w)) (w .capacity (l .entry .w)) (w .capacity (l .w)) (l .posts)
-      (to-each (λ j. goes (l .whom) (rows-of b (l .rows) j)) (addressed (message b (l .m))) (l .i))
+    (to-each (λ j. goes (l .whom) (rows-of b (l .rows) j)) (addressed (message b (l .m))) (l .i))

@@ -10,5 +10,5 @@ returns g c =
     record {
       list = post-taken (v .valid) (v .width) (w .capacity (c .args .w .now)) (w .waiting (c .args .w .now)) _ (message (v .bytes) (c .args .m .now)) (c .pre) (c .post .ensures .after);
       answer = refl;
-      kept = c .post .ensures .kept
+      kept = c .post .ensures .kept;
     }

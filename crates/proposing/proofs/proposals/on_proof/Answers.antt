@@ -26,7 +26,7 @@ wake-proposal-requires g c κs =
     let way = proof-told s me p m q (ap with-rows (c .note-proof .ensures)) in
     record {
       whole = (omega (arith, c .pre .whole .0), ap (λ k. eqb k 3 || eqb k 8) (c .pre .whole .3));
-      taken = takes-same _ _ way (c .pre .taken)
+      taken = takes-same _ _ way (c .pre .taken);
     }
 
 pub returns : need.returns

@@ -23,7 +23,7 @@ take-state-requires g c κs =
     let m = message (v .bytes) (c .args .m .now) in
     record {
       whole = c .pre .whole;
-      taken = takes-same _ _ (settled-taken s me p m _ (c .if-settled-already .ensures tt) (c .after-message-state .ensures)) (c .pre .taken)
+      taken = takes-same _ _ (settled-taken s me p m _ (c .if-settled-already .ensures tt) (c .after-message-state .ensures)) (c .pre .taken);
     }
 
 pub returns-then-settled-already : need.returns-then-settled-already

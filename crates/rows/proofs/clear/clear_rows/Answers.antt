@@ -17,4 +17,4 @@ pub returns : need.returns
 returns g c =
     let f = emptied (g .V·Value .bytes) in
     all-emptied (g .V·Value .bytes) (c .args .rows .now) (c .loop-row .rows)
-      (wholly-mapped f (c .args .rows .now) (c .loop-row .rows) (c .loop-row .row-index) (c .loop-row-test .left) (c .loop-row .inv))
+    (wholly-mapped f (c .args .rows .now) (c .loop-row .rows) (c .loop-row .row-index) (c .loop-row-test .left) (c .loop-row .inv))

@@ -5,8 +5,8 @@ use lib.ListN.{length}
 use Rattle.rows.proofs.Senders.{row-put}
 use Rattle.rows.proofs.rows.put_row.Needs as need
 
-pub offset-rows-from : need.offset-rows-from
-offset-rows-from g c =
+pub offset-rows-i : need.offset-rows-i
+offset-rows-i g c =
     let h : c .args .from - 1 ≤ length (c .args .rows .now) = omega arith in search (needs, scaled-fits≤)
 
 pub returns : need.returns

@@ -12,8 +12,8 @@ loop-row-again g c =
     let b = g .V·Value .bytes in
     let p = g .C·Claim .backed (c .args .claim .now) in
     elim (c .if-backs .came) [
-      then-backs w ↦ (omega (arith, w .found-is), counted-yes b p (c .args .rows .now) (c .loop-row .row-index) (c .loop-row .found) _ (c .row-item .result) (c .loop-row-test .taken) (c .row-item .is) (c .loop-row .inv .1) (w .if-backs .ensures tt) (w .found-is))
-    | else-backs w ↦ (omega (arith, w .found-is), counted-no b p (c .args .rows .now) (c .loop-row .row-index) (c .loop-row .found) _ (c .row-item .result) (c .loop-row-test .taken) (c .row-item .is) (c .loop-row .inv .1) (w .if-backs .ensures tt) (w .found-is))
+      | then-backs w ↦ (omega (arith, w .found-is), counted-yes b p (c .args .rows .now) (c .loop-row .row-index) (c .loop-row .found) _ (c .row-item .result) (c .loop-row-test .taken) (c .row-item .is) (c .loop-row .inv .1) (w .if-backs .ensures tt) (w .found-is))
+      | else-backs w ↦ (omega (arith, w .found-is), counted-no b p (c .args .rows .now) (c .loop-row .row-index) (c .loop-row .found) _ (c .row-item .result) (c .loop-row-test .taken) (c .row-item .is) (c .loop-row .inv .1) (w .if-backs .ensures tt) (w .found-is))
     ]
 
 pub returns : need.returns

@@ -24,7 +24,7 @@ tell-abort-requires g c κs =
     let p = party-of (v .bytes) (c .args .own .now) (c .args .rows .now) in
     record {
       whole = c .pre .whole;
-      taken = takes-same _ _ (abort-joined s me p _ _ (ap (λ r. r .abort) (c .row-from-row .ensures)) (c .vouched-abort-view .ensures) (c .if-row-view .taken)) (c .pre .taken)
+      taken = takes-same _ _ (abort-joined s me p _ _ (ap (λ r. r .abort) (c .row-from-row .ensures)) (c .vouched-abort-view .ensures) (c .if-row-view .taken)) (c .pre .taken);
     }
 
 pub returns-then-row-view : need.returns-then-row-view

@@ -24,7 +24,7 @@ tell-abort-requires g c κs =
     let p = party-of (v .bytes) (c .args .own .now) (c .args .rows .now) in
     record {
       whole = c .pre .whole;
-      taken = takes-same _ _ (passed _ _ _ (sym (lt-ltb _ _ (c .if-row-own .taken)) ∙ ap (λ r. ltb (r .abort) (c .args .own .now .view)) (c .row-from-row .ensures))) (c .pre .taken)
+      taken = takes-same _ _ (passed _ _ _ (sym (lt-ltb _ _ (c .if-row-own .taken)) ∙ ap (λ r. ltb (r .abort) (c .args .own .now .view)) (c .row-from-row .ensures))) (c .pre .taken);
     }
 
 pub returns-then-row-own : need.returns-then-row-own

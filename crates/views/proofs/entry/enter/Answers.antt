@@ -41,7 +41,7 @@ make-proof-proofs-requires g c κs =
     let t = takes-same _ _ way (c .pre .taken) in
     record {
       whole = omega (arith, c .pre .whole);
-      taken = takes-rest _ _ _ _ _ _ _ _ (takes-rest _ _ _ _ _ _ _ _ t (c .send-view-requests .ensures .list) (c .send-view-requests .ensures .kept)) (c .suggest-primary-suggests .ensures .list) (c .suggest-primary-suggests .ensures .kept)
+      taken = takes-rest _ _ _ _ _ _ _ _ (takes-rest _ _ _ _ _ _ _ _ t (c .send-view-requests .ensures .list) (c .send-view-requests .ensures .kept)) (c .suggest-primary-suggests .ensures .list) (c .suggest-primary-suggests .ensures .kept);
     }
 
 pub add-result : need.add-result

@@ -23,9 +23,9 @@ post-one-requires g c κs =
     let k = primary s (own .view) in
     let q = c .primary-of-primary .ensures in
     let read : rows-of (v .bytes) (c .args .rows .now) k .request ≡ c .row-from-row .result .request =
-      ap (λ j. rows-of (v .bytes) (c .args .rows .now) j .request) (sym q) ∙ ap (λ r. r .request) (sym (c .row-from-row .ensures)) in
+    ap (λ j. rows-of (v .bytes) (c .args .rows .now) j .request) (sym q) ∙ ap (λ r. r .request) (sym (c .row-from-row .ensures)) in
     takes-if _ (suggest-msg s me (own .view) (suggest-of (v .bytes) (own .suggest)) k) _ (eq-eqb _ _ (read ∙ c .if-row-own .taken))
-      (c .suggest-letter-m .ensures ∙ ap (suggest-msg s me (own .view) (suggest-of (v .bytes) (own .suggest))) q) (c .pre .taken)
+    (c .suggest-letter-m .ensures ∙ ap (suggest-msg s me (own .view) (suggest-of (v .bytes) (own .suggest))) q) (c .pre .taken)
 
 pub returns-then-row-own : need.returns-then-row-own
 returns-then-row-own g c =
@@ -36,9 +36,9 @@ returns-then-row-own g c =
     let k = primary s (own .view) in
     let q = c .primary-of-primary .ensures in
     let read : rows-of (v .bytes) (c .args .rows .now) k .request ≡ c .row-from-row .result .request =
-      ap (λ j. rows-of (v .bytes) (c .args .rows .now) j .request) (sym q) ∙ ap (λ r. r .request) (sym (c .row-from-row .ensures)) in
+    ap (λ j. rows-of (v .bytes) (c .args .rows .now) j .request) (sym q) ∙ ap (λ r. r .request) (sym (c .row-from-row .ensures)) in
     posted-if _ (suggest-msg s me (own .view) (suggest-of (v .bytes) (own .suggest)) k) _ (eq-eqb _ _ (read ∙ c .if-row-own .taken))
-      (c .suggest-letter-m .ensures ∙ ap (suggest-msg s me (own .view) (suggest-of (v .bytes) (own .suggest))) q) (c .post-one .ensures)
+    (c .suggest-letter-m .ensures ∙ ap (suggest-msg s me (own .view) (suggest-of (v .bytes) (own .suggest))) q) (c .post-one .ensures)
 
 pub returns-else-row-own : need.returns-else-row-own
 returns-else-row-own g c =
@@ -49,5 +49,5 @@ returns-else-row-own g c =
     let k = primary s (own .view) in
     let q = c .primary-of-primary .ensures in
     let read : rows-of (v .bytes) (c .args .rows .now) k .request ≡ c .row-from-row .result .request =
-      ap (λ j. rows-of (v .bytes) (c .args .rows .now) j .request) (sym q) ∙ ap (λ r. r .request) (sym (c .row-from-row .ensures)) in
+    ap (λ j. rows-of (v .bytes) (c .args .rows .now) j .request) (sym q) ∙ ap (λ r. r .request) (sym (c .row-from-row .ensures)) in
     posted-if-not _ (suggest-msg s me (own .view) (suggest-of (v .bytes) (own .suggest)) k) (ne-eqb _ _ (λ e. c .if-row-own .left (sym read ∙ e)))

@@ -11,4 +11,4 @@ loop-row-again g c =
 pub returns : need.returns
 returns g c =
     all-blank (g .V·Value .bytes) (c .args .rows .now) (c .loop-row .rows)
-      (wholly-mapped (λ _. blank-row (g .V·Value .bytes)) (c .args .rows .now) (c .loop-row .rows) (c .loop-row .row-index) (c .loop-row-test .left) (c .loop-row .inv))
+    (wholly-mapped (λ _. blank-row (g .V·Value .bytes)) (c .args .rows .now) (c .loop-row .rows) (c .loop-row .row-index) (c .loop-row-test .left) (c .loop-row .inv))

@@ -24,15 +24,15 @@ enter-requires g c κs =
     let new : q ≡ newcomer x = two-parts _ _ _ _ (c .new-record .ensures) (c .empty-rows .ensures) in
     let seated : Seated (v .valid) s me = record { blank = laws .«blank_valid»; size = c .args .seat .most; low = c .args .seat .first; high = c .args .seat .last } in
     let fits : Fits (v .valid) s (newcomer x) =
-      record {
-        numbers = newcomer-fits x n;
-        values = ap (values-fit (v .valid) (v .width) n) (sym new) ∙ all-values (v .bytes) (v .valid) (v .width) (laws .sized) (laws .sound) (c .new-record .result) (c .empty-rows .last .rows) n
-      } in
+    record {
+      numbers = newcomer-fits x n;
+      values = ap (values-fit (v .valid) (v .width) n) (sym new) ∙ all-values (v .bytes) (v .valid) (v .width) (laws .sized) (laws .sound) (c .new-record .result) (c .empty-rows .last .rows) n;
+    } in
     let way = ap (λ p. enter s me p 1) (sym new) in
     record {
       whole = omega (arith, c .pre .whole);
       taken = takes-same _ _ way
-        (takes-first-posts (v .valid) s me _ _ (enter s me (newcomer x) 1 .posts) (c .args .seat .most) (posts-in-range .by-entry (v .valid) s me (newcomer x) 1 seated fits (omega arith) (omega arith)) (first-posts s me x) (c .pre .room))
+          (takes-first-posts (v .valid) s me _ _ (enter s me (newcomer x) 1 .posts) (c .args .seat .most) (posts-in-range .by-entry (v .valid) s me (newcomer x) 1 seated fits (omega arith) (omega arith)) (first-posts s me x) (c .pre .room));
     }
 
 pub returns : need.returns
@@ -47,13 +47,13 @@ returns g c =
     let new : q ≡ newcomer x = two-parts _ _ _ _ (c .new-record .ensures) (c .empty-rows .ensures) in
     let seated : Seated (v .valid) s me = record { blank = laws .«blank_valid»; size = c .args .seat .most; low = c .args .seat .first; high = c .args .seat .last } in
     let fits : Fits (v .valid) s (newcomer x) =
-      record {
-        numbers = newcomer-fits x n;
-        values = ap (values-fit (v .valid) (v .width) n) (sym new) ∙ all-values (v .bytes) (v .valid) (v .width) (laws .sized) (laws .sound) (c .new-record .result) (c .empty-rows .last .rows) n
-      } in
+    record {
+      numbers = newcomer-fits x n;
+      values = ap (values-fit (v .valid) (v .width) n) (sym new) ∙ all-values (v .bytes) (v .valid) (v .width) (laws .sized) (laws .sound) (c .new-record .result) (c .empty-rows .last .rows) n;
+    } in
     let way = ap (λ p. enter s me p 1) (sym new) in
     let done = does-same _ _ _ (sym way) (c .enter .ensures) in
     record {
       step = done;
-      fits = ap (party-fits n) (done .party) ∙ bounds-kept .by-entry (v .valid) s me (newcomer x) 1 seated fits (omega arith) (omega arith) .numbers
+      fits = ap (party-fits n) (done .party) ∙ bounds-kept .by-entry (v .valid) s me (newcomer x) 1 seated fits (omega arith) (omega arith) .numbers;
     }

@@ -21,7 +21,7 @@ follow-done-posts-requires g c κs =
     record {
       whole = omega (arith, c .pre .whole .0);
       taken = takes-before (join-done s (c .args .seat .me) q (m .value)) (decide s (c .args .seat .me) (m .value))
-        (takes-same _ _ (done-both s (c .args .seat .me) p m q (ap with-rows (c .note-done .ensures))) (c .pre .taken))
+          (takes-same _ _ (done-both s (c .args .seat .me) p m q (ap with-rows (c .note-done .ensures))) (c .pre .taken));
     }
 
 pub returns : need.returns
@@ -34,4 +34,4 @@ returns g c =
     let q = party-of (v .bytes) (c .args .own .now) (c .note-done .last .rows) in
     let told = party-of (v .bytes) (c .follow-done-posts .last .own) (c .note-done .last .rows) in
     does-same _ _ _ (sym (done-both s (c .args .seat .me) p m q (ap with-rows (c .note-done .ensures))))
-      (does-then (join-done s (c .args .seat .me) q (m .value)) (decide s (c .args .seat .me) (m .value)) told (party-of (v .bytes) (c .try-decide .last .own) (c .note-done .last .rows)) (c .follow-done-posts .ensures) (c .try-decide .ensures) (decide-quiet s (c .args .seat .me) (m .value) told))
+    (does-then (join-done s (c .args .seat .me) q (m .value)) (decide s (c .args .seat .me) (m .value)) told (party-of (v .bytes) (c .try-decide .last .own) (c .note-done .last .rows)) (c .follow-done-posts .ensures) (c .try-decide .ensures) (decide-quiet s (c .args .seat .me) (m .value) told))

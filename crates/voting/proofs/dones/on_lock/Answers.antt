@@ -18,7 +18,7 @@ tell-done-requires g c κs =
     let with-rows : (ℕ → Row) → Party = λ r. record { rec = record-of (v .bytes) (c .args .own .now); rows = r } in
     record {
       whole = omega (arith, c .pre .whole .0);
-      taken = takes-same _ _ (lock-told s (c .args .seat .me) p m _ (ap with-rows (c .note-vote .ensures)) (c .if-due-by-locks .ensures tt)) (c .pre .taken)
+      taken = takes-same _ _ (lock-told s (c .args .seat .me) p m _ (ap with-rows (c .note-vote .ensures)) (c .if-due-by-locks .ensures tt)) (c .pre .taken);
     }
 
 pub returns-then-due-by-locks : need.returns-then-due-by-locks

@@ -9,4 +9,4 @@ pub returns-then-has-quorum : need.returns-then-has-quorum
 returns-then-has-quorum g c =
     let own = c .args .own .now in
     and-last _ _ _ (c .if-has-quorum .ensures tt)
-      (ap (λ k. ltb (k .at) (own .view)) (c .field .ensures) ∙ ap (λ j. ltb (field-of (g .V·Value .bytes) own j .at) (own .view)) (add-one (c .args .kind)))
+    (ap (λ k. ltb (k .at) (own .view)) (c .field .ensures) ∙ ap (λ j. ltb (field-of (g .V·Value .bytes) own j .at) (own .view)) (add-one (c .args .kind)))

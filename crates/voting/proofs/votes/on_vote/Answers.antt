@@ -19,7 +19,7 @@ announce-requires g c κs =
     let with-rows : (ℕ → Row) → Party = λ r. record { rec = record-of (v .bytes) (c .args .own .now); rows = r } in
     record {
       whole = (omega (arith, c .pre .whole .0), omega (arith, c .pre .whole), omega (arith, c .pre .whole));
-      taken = takes-same _ _ (vote-announced s (c .args .seat .me) p m _ (ap with-rows (c .note-vote .ensures)) (c .if-announce-due .ensures tt)) (c .pre .taken)
+      taken = takes-same _ _ (vote-announced s (c .args .seat .me) p m _ (ap with-rows (c .note-vote .ensures)) (c .if-announce-due .ensures tt)) (c .pre .taken);
     }
 
 pub returns-then-announce-due : need.returns-then-announce-due
