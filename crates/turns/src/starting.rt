@@ -6,7 +6,7 @@ ghost use Rattle.rules.specs.Step.{newcomer, enter};
 ghost use Rattle.agreement.specs.Calls.{said, stepped};
 ghost use Rattle.tables.specs.Meaning.{ring-of};
 ghost use Rattle.turns.specs.Meaning.{setting-in, Gives};
-use party::start::start;
+use views::start::start;
 use rows::record::Record;
 use rows::row::Row;
 use rows::seat::Seat;
