@@ -11,7 +11,7 @@ use rows::seat::Seat;
 use values::value::Value;
 
 // A request (1) or an abort (11).
-pub fn view_letter<V: Value>(seat: Seat, kind: u8, view: u32, to: u8) -> Message<V>
+pub(crate) fn view_letter<V: Value>(seat: Seat, kind: u8, view: u32, to: u8) -> Message<V>
     ensures { λ r. ⌜ message bytes r ≡ view-msg (setting-of width allows seat) (seat .me) kind view to ⌝ }
 {
     Message {
