@@ -1,0 +1,3 @@
+pub mod plan;
+pub mod entering;
+pub mod setup;
