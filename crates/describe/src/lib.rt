@@ -1,3 +1,5 @@
-// Values, messages and what a step changed, printed for a person.
+// What the programs share: values, messages, calls and changes in plain words, and blank tables.
+pub mod blank;
 pub mod message;
 pub mod record;
+pub mod steps;

@@ -1,11 +1,16 @@
 // A walk through the engine, every step printed: messages of both kinds become frames, come back,
-// travel over both wires, and each refusal of the frames part is met once.
+// travel over both wires, and each refusal of the frames part is met once; one party alone goes
+// from its first request to its decision; and two run sheets are read.
+mod alone;
 mod frames_walk;
 mod refusals;
 mod samples;
 mod sheets_walk;
 mod wires_walk;
 
+use crate::alone::walk_alone;
+use describe::blank::blank_record;
+use describe::blank::blank_row;
 use crate::frames_walk::walk_frames;
 use describe::message::BlockReadable;
 use describe::message::OrderReadable;
@@ -65,6 +70,11 @@ fn walk(rt: &LibcRuntime) -> Result<(), AnyError> {
     walk_both_wires(rt, &mut order_table, &orders)?;
     println!(rt, "== refusals")?;
     show_refusals(rt)?;
+    println!(rt, "== one party alone")?;
+    let mut records = [blank_record(); 1];
+    let mut rows = [blank_row(); 1];
+    let mut table = [request::<Block>(1, 1, 1); 20];
+    walk_alone(rt, &mut records, &mut rows, &mut table)?;
     println!(rt, "== run sheets")?;
     walk_sheets(rt)
 }

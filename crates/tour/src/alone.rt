@@ -1,0 +1,32 @@
+// One party alone in a ring, from its first request to its decision.
+use describe::message::BlockReadable;
+use describe::steps::print_posts;
+use describe::steps::walk_call;
+use messages::message::Message;
+use shift::call::Call;
+use setup::setup::set_up;
+use rows::record::Record;
+use rows::row::Row;
+use std::error::AnyError;
+use tables::ring::Ring;
+use values::block::Block;
+use values::block::BlockValue;
+use wires::table::TableAsWire;
+use wires::table::TableWire;
+
+// Sets up a ring of one, and hands it what waits until nothing does.
+pub(crate) fn walk_alone(rt: &LibcRuntime, records: &mut [Record<Block>], rows: &mut [Row<Block>], table: &mut [Message<Block>]) -> Result<(), AnyError> {
+    let own = [Block { first: 100, count: 50, party: 1 }];
+    let mut ring = Ring::new();
+    let mut wire = TableWire::new(table);
+    if set_up(&mut ring, 1, 0, 0, &own, records, rows, &mut wire).is_err() {
+        return Err("a ring of one was refused".into());
+    }
+    println!(rt, "set-up: the party enters view 1")?;
+    print_posts(rt, &wire, 1)?;
+    let call: Call<Block> = Call::Hand(0);
+    for _ in 0..11 {
+        let _refused = walk_call(rt, &ring, records, rows, &mut wire, &call)?;
+    }
+    Ok(())
+}
