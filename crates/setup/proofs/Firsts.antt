@@ -14,7 +14,7 @@ use Rattle.std.proofs.shelf.Tests.{cases-eq, cases-lt, eq-eqb, ne-eqb, le-leb, 
 use Rattle.messages.specs.Messages.{Msg, between}
 use Rattle.rules.specs.Counting.{upd}
 use Rattle.rules.specs.Party.{Party, Step}
-use Rattle.party.proofs.Newcomers.{first-posts as first-length}
+use Rattle.views.proofs.Newcomers.{first-posts as first-length}
 use Rattle.agreement.specs.Ring.{Kind, Ring, setting}
 use Rattle.agreement.specs.Calls.{Plan, named, own-of, planned, first-step, first-posts, stepped, set-up-done}
 

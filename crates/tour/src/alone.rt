@@ -1,12 +1,14 @@
 // One party alone in a ring, from its first request to its decision.
 use describe::message::BlockReadable;
+use describe::steps::print_outcome;
+use describe::steps::print_place;
 use describe::steps::print_posts;
-use describe::steps::walk_call;
+use describe::steps::record_of;
 use messages::message::Message;
-use shift::call::Call;
-use setup::setup::set_up;
+use ring::delivery::hand;
 use rows::record::Record;
 use rows::row::Row;
+use setup::setup::set_up;
 use std::error::AnyError;
 use tables::ring::Ring;
 use values::block::Block;
@@ -24,9 +26,12 @@ pub(crate) fn walk_alone(rt: &LibcRuntime, records: &mut [Record<Block>], rows: 
     }
     println!(rt, "set-up: the party enters view 1")?;
     print_posts(rt, &wire, 1)?;
-    let call: Call<Block> = Call::Hand(0);
     for _ in 0..11 {
-        let _refused = walk_call(rt, &ring, records, rows, &mut wire, &call)?;
+        print!(rt, "hand: ")?;
+        print_place(rt, &wire, 0)?;
+        let before = record_of(records, 1);
+        let answer = hand(&ring, records, rows, &mut wire, 0);
+        let _refused = print_outcome(rt, &wire, &before, &record_of(records, 1), answer)?;
     }
     Ok(())
 }
