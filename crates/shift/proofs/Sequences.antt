@@ -15,6 +15,7 @@ use Rattle.agreement.specs.Calls.{Answer, Plan, said, set-up}
 use Rattle.agreement.specs.Runs.{Call, Shift, call, follow, run, begun, shift}
 use Rattle.tables.specs.declared.refusal.Refusal.{Refusal}
 use Rattle.tables.specs.Meaning.{answer-of}
+use Rattle.turns.specs.Meaning.{Gives}
 use Rattle.ring.specs.declared.shown.Shown.{Shown}
 use Rattle.ring.specs.Meaning.{shown-answer}
 use Rattle.shift.specs.Meaning.{is-refused, refusals, end-of}
@@ -27,6 +28,17 @@ accepted (Err x) a b e h = h ∙ ap (λ y. not (is-refused y)) e
 pub accepted-show : {V : Type 0} (bytes : V → List ℕ) (r : Result (Shown V) Refusal) (a : Answer) (b : Bool) → shown-answer bytes r ≡ a → b ≡ isOk r → b ≡ not (is-refused a)
 accepted-show bytes (Ok x) a b e h = h ∙ ap (λ y. not (is-refused y)) e
 accepted-show bytes (Err x) a b e h = h ∙ ap (λ y. not (is-refused y)) e
+
+module _ (k : Kind) (s s′ : Ring) (c d : Call) (e : c ≡ d) where
+  pub arm-answer : (r : Result ℕ Refusal) (b : Bool) → Gives (call k s d) (answer-of r) s′ → b ≡ isOk r → b ≡ not (is-refused (call k s c .answer))
+  arm-answer r b g h = accepted r (call k s d .answer) b (g .answer) h ∙ ap (λ c. not (is-refused (call k s c .answer))) (sym e)
+
+  pub show-answer : {V : Type 0} (bytes : V → List ℕ) (r : Result (Shown V) Refusal) (b : Bool) → Gives (call k s d) (shown-answer bytes r) s′ → b ≡ isOk r →
+    b ≡ not (is-refused (call k s c .answer))
+  show-answer bytes r b g h = accepted-show bytes r (call k s d .answer) b (g .answer) h ∙ ap (λ c. not (is-refused (call k s c .answer))) (sym e)
+
+  pub arm-after : (a : Answer) → Gives (call k s d) a s′ → s′ ≡ call k s c .after
+  arm-after a g = g .after ∙ ap (λ c. call k s c .after) (sym e)
 
 -- ## One call more
 take-next : {X Y : Type 0} (f : X → Y) (xs : List X) (i : ℕ) (x : X) → i < length xs → x ≡ getD xs i x → take (suc i) (map f xs) ≡ take i (map f xs) ++ (f x ∷ [])
@@ -64,7 +76,7 @@ module _ (k : Kind) where
 
     flip : (a : Bool) → false ≡ not a → a ≡ true
     flip true e = refl
-    flip false e = sym e
+    flip false e = e
 
     flop : (a : Bool) → true ≡ not a → a ≡ false
     flop true e = e
