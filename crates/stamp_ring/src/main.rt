@@ -3,12 +3,14 @@
 //   stamp_ring                the same, the sheet on standard input
 //   stamp_ring --steps SHEET  each step of the run, for a person, and then the end
 mod end;
+mod shape;
 mod steps;
 
 use describe::blank::blank_record;
 use describe::blank::blank_row;
 use crate::end::print_end;
 use crate::end::print_stop;
+use crate::shape::Shape;
 use crate::steps::walk_steps;
 use describe::message::BlockReadable;
 use describe::message::OrderReadable;
@@ -38,8 +40,18 @@ use wires::fixed::fixed_request;
 use wires::table::TableAsWire;
 use wires::table::TableWire;
 
-// How many messages the wire of a sheet's ring holds.
+// How many messages the wire of a sheet's ring holds, and how many parties a sheet may have.
 const CAPACITY: usize = 1000;
+const MOST_PARTIES: usize = 8;
+
+// A table of so many copies.
+fn filled<T: Copy>(heap: Global, entry: T, count: usize) -> Result<Vec<T>, AllocError> {
+    let mut table = Vec::new(heap);
+    for _ in 0..count {
+        table.push(entry)?;
+    }
+    Ok(table)
+}
 
 // A line of a sheet as a call on the ring. A number beyond any place finds no message.
 fn call_of<V: Value>(line: &Line) -> Call<V> {
@@ -59,26 +71,30 @@ fn ring_calls<V: Value>(heap: Global, lines: &[Line]) -> Result<Vec<Call<V>>, Al
     Ok(calls)
 }
 
+fn shape_of<V>(setup: &Setup<V>) -> Shape {
+    Shape { parties: setup.parties, faults: setup.faults, faulty: setup.faulty }
+}
+
 // Runs the shift over these tables, and prints its end.
-fn run_over<V: ValueText>(rt: &LibcRuntime, setup: &Setup<V>, calls: &[Call<V>], records: &mut [Record<V>], rows: &mut [Row<V>], table: &mut [Message<V>]) -> Result<(), AnyError> {
+fn run_over<V: ValueText>(rt: &LibcRuntime, shape: Shape, own: &[V], calls: &[Call<V>], records: &mut [Record<V>], rows: &mut [Row<V>], table: &mut [Message<V>]) -> Result<(), AnyError> {
     let mut ring = Ring::new();
     let mut wire = TableWire::new(table);
-    match run_shift(&mut ring, setup.parties, setup.faults, setup.faulty, &setup.own, records, rows, &mut wire, calls) {
+    match run_shift(&mut ring, shape.parties, shape.faults, shape.faulty, own, records, rows, &mut wire, calls) {
         Ok(refused) => print_end(rt, &ring, records, rows, &wire, calls.len(), refused),
         Err(refusal) => print_stop(rt, refusal.number(), 0),
     }
 }
 
-fn run_setup<V: ValueText + Readable>(rt: &LibcRuntime, setup: &Setup<V>, lines: &[Line], steps: bool) -> Result<(), AnyError> {
+fn run_setup<V: ValueText + Readable>(rt: &LibcRuntime, shape: Shape, own: &[V], lines: &[Line], steps: bool) -> Result<(), AnyError> {
     let heap = rt.alloc();
-    let mut records = vec![in heap; blank_record::<V>(); 8]?;
-    let mut rows = vec![in heap; blank_row::<V>(); 64]?;
-    let mut table = vec![in heap; fixed_request::<V>(); CAPACITY]?;
+    let mut records = filled(heap, blank_record::<V>(), MOST_PARTIES)?;
+    let mut rows = filled(heap, blank_row::<V>(), MOST_PARTIES * MOST_PARTIES)?;
+    let mut table = filled(heap, fixed_request::<V>(), CAPACITY)?;
     let calls = ring_calls::<V>(heap, lines)?;
     if steps {
-        walk_steps(rt, setup, calls.as_slice(), records.as_mut_slice(), rows.as_mut_slice(), table.as_mut_slice())
+        walk_steps(rt, shape, own, calls.as_slice(), records.as_mut_slice(), rows.as_mut_slice(), table.as_mut_slice())
     } else {
-        run_over(rt, setup, calls.as_slice(), records.as_mut_slice(), rows.as_mut_slice(), table.as_mut_slice())
+        run_over(rt, shape, own, calls.as_slice(), records.as_mut_slice(), rows.as_mut_slice(), table.as_mut_slice())
     }
 }
 
@@ -91,8 +107,8 @@ fn run_sheet(rt: &LibcRuntime, bytes: &[u8], steps: bool) -> Result<(), AnyError
         return Err("no memory for the calls of the sheet".into());
     };
     match plan {
-        Plan::Blocks(setup) => run_setup(rt, &setup, lines.as_slice(), steps),
-        Plan::Orders(setup) => run_setup(rt, &setup, lines.as_slice(), steps),
+        Plan::Blocks(setup) => run_setup(rt, shape_of(&setup), &setup.own, lines.as_slice(), steps),
+        Plan::Orders(setup) => run_setup(rt, shape_of(&setup), &setup.own, lines.as_slice(), steps),
     }
 }
 

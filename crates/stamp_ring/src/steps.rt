@@ -1,6 +1,7 @@
 // A run step by step, for a person: who got what from whom, what it posted, what changed; and then its end.
 use crate::end::print_end;
 use crate::end::print_stop;
+use crate::shape::Shape;
 use describe::message::Readable;
 use describe::message::print_message;
 use describe::steps::print_outcome;
@@ -16,7 +17,6 @@ use ring::timing::timer;
 use rows::record::Record;
 use rows::row::Row;
 use setup::setup::set_up;
-use sheet::setup::Setup;
 use sheet_print::value_text::ValueText;
 use shift::call::Call;
 use std::error::AnyError;
@@ -85,10 +85,10 @@ fn walk_call<V: Readable, W: Wire<V>>(rt: &LibcRuntime, ring: &Ring, records: &m
     print_outcome(rt, wire, &before, &record_of(records, party), answer)
 }
 
-pub(crate) fn walk_steps<V: ValueText + Readable>(rt: &LibcRuntime, setup: &Setup<V>, calls: &[Call<V>], records: &mut [Record<V>], rows: &mut [Row<V>], table: &mut [Message<V>]) -> Result<(), AnyError> {
+pub(crate) fn walk_steps<V: ValueText + Readable>(rt: &LibcRuntime, shape: Shape, own: &[V], calls: &[Call<V>], records: &mut [Record<V>], rows: &mut [Row<V>], table: &mut [Message<V>]) -> Result<(), AnyError> {
     let mut ring = Ring::new();
     let mut wire = TableWire::new(table);
-    if let Err(refusal) = set_up(&mut ring, setup.parties, setup.faults, setup.faulty, &setup.own, records, rows, &mut wire) {
+    if let Err(refusal) = set_up(&mut ring, shape.parties, shape.faults, shape.faulty, own, records, rows, &mut wire) {
         return print_stop(rt, refusal.number(), 0);
     }
     println!(rt, "set-up: every honest party enters view 1")?;
