@@ -5,6 +5,8 @@ use rows::keys::Suggest;
 use rows::record::Proposal;
 use rows::record::Record;
 use rows::row::Row;
+use std::alloc::AllocError;
+use std::alloc::Global;
 use values::value::Value;
 
 pub fn blank_record<V: Value>() -> Record<V> {
@@ -39,4 +41,13 @@ pub fn blank_row<V: Value>() -> Row<V> {
         key3: None,
         lock: None,
     }
+}
+
+// A table of so many copies.
+pub fn filled<T: Copy>(heap: Global, entry: T, count: usize) -> Result<Vec<T>, AllocError> {
+    let mut table = Vec::new(heap);
+    for _ in 0..count {
+        table.push(entry)?;
+    }
+    Ok(table)
 }

@@ -8,6 +8,7 @@ mod steps;
 
 use describe::blank::blank_record;
 use describe::blank::blank_row;
+use describe::blank::filled;
 use crate::end::print_end;
 use crate::end::print_stop;
 use crate::shape::Shape;
@@ -43,15 +44,6 @@ use wires::table::TableWire;
 // How many messages the wire of a sheet's ring holds, and how many parties a sheet may have.
 const CAPACITY: usize = 1000;
 const MOST_PARTIES: usize = 8;
-
-// A table of so many copies.
-fn filled<T: Copy>(heap: Global, entry: T, count: usize) -> Result<Vec<T>, AllocError> {
-    let mut table = Vec::new(heap);
-    for _ in 0..count {
-        table.push(entry)?;
-    }
-    Ok(table)
-}
 
 // A line of a sheet as a call on the ring. A number beyond any place finds no message.
 fn call_of<V: Value>(line: &Line) -> Call<V> {
