@@ -1,6 +1,8 @@
 // One full agreement of honest parties, each message handed in the order of posting, over both wires.
 //   bench               the posts of one agreement, which are exact, for 4 and 16 parties, and bytes kept
 //   bench time N ITER   microseconds for ITER agreements of N parties: each as one shift, over each wire, and by single calls
+#![tactic(auto)]
+
 use anyhow::anyhow;
 use describe::blank::{blank_record, blank_row, filled};
 use frame_wire::buffer::FrameWire;

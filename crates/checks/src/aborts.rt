@@ -13,7 +13,7 @@ use values::value::Value;
 
 // The largest abort that `size` senders have reached, 0 where there is none.
 pub fn reached_by<V: Value>(rows: &[Row<V>], size: usize) -> u32
-    ensures { result ≡ largest (λ j. (rows_of bytes rows.now j).abort) (λ x. nat_le size (count (λ j. nat_le x (rows_of bytes rows.now j).abort) (length rows.now))) (length rows.now) }
+    ensures { result ≡ largest (λ j. (rows_of V.bytes rows.now j).abort) (λ x. nat_le size (count (λ j. nat_le x (rows_of V.bytes rows.now j).abort) (length rows.now))) (length rows.now) }
 {
     let mut top = 0;
     for row in rows {
@@ -27,7 +27,7 @@ pub fn reached_by<V: Value>(rows: &[Row<V>], size: usize) -> u32
 // The largest abort that a voucher has reached.
 pub fn vouched_abort<V: Value>(seat: Seat, rows: &[Row<V>]) -> u32
     requires { length rows.now ≡ seat.n }
-    ensures { result ≡ vouched (setting_of width allows seat) (λ j. (rows_of bytes rows.now j).abort) }
+    ensures { result ≡ vouched (setting_of V.width V.allows seat) (λ j. (rows_of V.bytes rows.now j).abort) }
 {
     reached_by(rows, voucher_size(seat.f))
 }
@@ -35,7 +35,7 @@ pub fn vouched_abort<V: Value>(seat: Seat, rows: &[Row<V>]) -> u32
 // The largest abort that a quorum has reached.
 pub fn agreed_abort<V: Value>(seat: Seat, rows: &[Row<V>]) -> u32
     requires { length rows.now ≡ seat.n }
-    ensures { result ≡ reached (setting_of width allows seat) (λ j. (rows_of bytes rows.now j).abort) }
+    ensures { result ≡ reached (setting_of V.width V.allows seat) (λ j. (rows_of V.bytes rows.now j).abort) }
 {
     reached_by(rows, quorum_size(seat.n, seat.f))
 }

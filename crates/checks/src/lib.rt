@@ -1,3 +1,5 @@
+#![tactic(auto)]
+
 pub mod aborts;
 pub mod lock;
 pub mod suggests;

@@ -14,7 +14,7 @@ use values::value::Value;
 // Whether a voucher of proofs opens the lock.
 pub fn opened<V: Value>(seat: Seat, own: &Record<V>, rows: &[Row<V>]) -> bool
     requires { length rows.now ≡ seat.n }
-    ensures { result ≡ lock_opened (setting_of width allows seat) (party_of bytes own.now rows.now) }
+    ensures { result ≡ lock_opened (setting_of V.width V.allows seat) (party_of V.bytes own.now rows.now) }
 {
     has_voucher(
         seat,
@@ -28,7 +28,7 @@ pub fn opened<V: Value>(seat: Seat, own: &Record<V>, rows: &[Row<V>]) -> bool
 
 // Whether there is no lock, or it is on this value.
 pub fn fits_lock<V: Value>(seat: Seat, own: &Record<V>, value: &V) -> bool
-    ensures { result ≡ lock_fits (setting_of width allows seat) seat.me (record_of bytes own.now) (bytes value.now) }
+    ensures { result ≡ lock_fits (setting_of V.width V.allows seat) seat.me (record_of V.bytes own.now) (V.bytes value.now) }
 {
     own.lock.at == 0 || own.lock.value.same(value)
 }

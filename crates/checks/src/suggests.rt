@@ -18,7 +18,7 @@ use values::value::Value;
 // Whether a voucher of the stored suggests bears out a key.
 fn is_borne_out<V: Value>(seat: Seat, own: &Record<V>, rows: &[Row<V>], key: &Keyed<V>) -> bool
     requires { length rows.now ≡ seat.n }
-    ensures { result ≡ borne_out (setting_of width allows seat) (party_of bytes own.now rows.now) (keyed_of bytes key.now) }
+    ensures { result ≡ borne_out (setting_of V.width V.allows seat) (party_of V.bytes own.now rows.now) (keyed_of V.bytes key.now) }
 {
     has_voucher(
         seat,
@@ -38,7 +38,7 @@ fn accepts_one<V: Value>(
     suggest: &Option<Suggest<V>>,
 ) -> bool
     requires { length rows.now ≡ seat.n }
-    ensures { result ≡ accepts (setting_of width allows seat) (party_of bytes own.now rows.now) (option_map (suggest_of bytes) suggest.now) }
+    ensures { result ≡ accepts (setting_of V.width V.allows seat) (party_of V.bytes own.now rows.now) (option_map (suggest_of V.bytes) suggest.now) }
 {
     let Some(s) = suggest else {
         return false;
@@ -51,7 +51,7 @@ fn accepts_one<V: Value>(
 
 // The suggest with the higher key3; the first among equals.
 fn higher_of<V: Value>(a: Option<Suggest<V>>, b: Option<Suggest<V>>) -> Option<Suggest<V>>
-    ensures { (g : Setting) → option_map (suggest_of bytes) result ≡ higher g (option_map (suggest_of bytes) a) (option_map (suggest_of bytes) b) }
+    ensures { (g : Setting) → option_map (suggest_of V.bytes) result ≡ higher g (option_map (suggest_of V.bytes) a) (option_map (suggest_of V.bytes) b) }
 {
     match (&a, &b) {
         (Some(s), Some(t)) if s.key3.at < t.key3.at => b,
@@ -63,7 +63,7 @@ fn higher_of<V: Value>(a: Option<Suggest<V>>, b: Option<Suggest<V>>) -> Option<S
 // The accepted suggest to follow: the highest key3, and the lowest sender among equals.
 pub fn best_of<V: Value>(seat: Seat, own: &Record<V>, rows: &[Row<V>]) -> Option<Suggest<V>>
     requires { length rows.now ≡ seat.n }
-    ensures { option_map (suggest_of bytes) result ≡ best (setting_of width allows seat) (party_of bytes own.now rows.now) seat.n }
+    ensures { option_map (suggest_of V.bytes) result ≡ best (setting_of V.width V.allows seat) (party_of V.bytes own.now rows.now) seat.n }
 {
     let mut top: Option<Suggest<V>> = None;
     for row in rows {
@@ -94,7 +94,7 @@ impl<'a, V: Value> Claim<V> for Accepted<'a, V> {
 // Whether propose is due: none was made in this view, and the accepted suggests form a quorum.
 pub fn due_propose<'a, V: Value>(seat: Seat, own: &'a Record<V>, rows: &'a [Row<V>]) -> bool
     requires { length rows.now ≡ seat.n }
-    ensures { result ≡ propose_due (setting_of width allows seat) seat.me (party_of bytes own.now rows.now) }
+    ensures { result ≡ propose_due (setting_of V.width V.allows seat) seat.me (party_of V.bytes own.now rows.now) }
 {
     own.offer.is_none() && has_quorum(seat, rows, &Accepted { seat, own, rows })
 }

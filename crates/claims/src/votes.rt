@@ -9,7 +9,7 @@ use values::value::Value;
 
 // Whether an entry is for the value.
 fn holds<V: Value>(entry: &Option<V>, value: &V) -> bool
-    ensures { result ≡ is (bytes value.now) (option_map bytes entry.now) }
+    ensures { result ≡ is (V.bytes value.now) (option_map V.bytes entry.now) }
 {
     match entry {
         Some(v) => v.same(value),

@@ -22,8 +22,8 @@ use wires::wire::Wire;
 
 // The message at a place, if it may be brought: it is between parties of the ring, and there is room for a step.
 fn admit<V: Value, W: Wire<V>>(ring: &Ring, wire: &W, place: usize) -> Result<Message<V>, Refusal>
-    ensures value { result_of (message bytes) result ≡ admitted ring.now.n (capacity wire.now) (waiting wire.now) (looked (waiting wire.now) place) }
-    ensures ranged { IfOk result (λ m. in_range valid width (message bytes m) ≡ true) }
+    ensures value { result_of (message V.bytes) result ≡ admitted ring.now.n (W.capacity wire.now) (W.waiting wire.now) (looked (W.waiting wire.now) place) }
+    ensures ranged { IfOk result (λ m. in_range V.valid V.width (message V.bytes m) ≡ true) }
 {
     let Ok(m) = wire.look(place) else {
         return Err(Refusal::NoMessage);
@@ -39,8 +39,8 @@ fn admit<V: Value, W: Wire<V>>(ring: &Ring, wire: &W, place: usize) -> Result<Me
 
 // Takes a message out, unless it is kept.
 fn take_unless<V: Value, W: Wire<V>>(wire: &mut W, place: usize, keep: bool)
-    ensures kept { capacity wire.new ≡ capacity wire.old }
-    ensures after { waiting wire.new ≡ (if keep then waiting wire.old else taken (waiting wire.old) place) }
+    ensures kept { W.capacity wire.new ≡ W.capacity wire.old }
+    ensures after { W.waiting wire.new ≡ (if keep then W.waiting wire.old else taken (W.waiting wire.old) place) }
 {
     if !keep {
         let _ = wire.take_out(place);
@@ -55,12 +55,12 @@ fn reach<V: Value, W: Wire<V>>(
     wire: &mut W,
     m: &Message<V>,
 ) -> usize
-    requires fit { true ≡ tables_fit (ring_of bytes ring.now records.old rows.old [] 0) }
+    requires fit { true ≡ tables_fit (ring_of V.bytes ring.now records.old rows.old [] 0) }
     requires known { true ≡ (between 1 ring.now.n m.now.from && between 1 ring.now.n m.now.to) }
-    requires ranged { in_range valid width (message bytes m.now) ≡ true }
-    requires room { length (waiting wire.old) + (3 * ring.now.n + 8) ≤ capacity wire.old }
-    ensures gives { Gives (deliver (kind_of width valid allows) (ring_of bytes ring.now records.old rows.old (waiting wire.old) (capacity wire.old)) (message bytes m.now) (waiting wire.old)) (said result) (ring_of bytes ring.now records.new rows.new (waiting wire.new) (capacity wire.new)) }
-    ensures fit { true ≡ tables_fit (ring_of bytes ring.now records.new rows.new [] 0) }
+    requires ranged { in_range V.valid V.width (message V.bytes m.now) ≡ true }
+    requires room { length (W.waiting wire.old) + (3 * ring.now.n + 8) ≤ W.capacity wire.old }
+    ensures gives { Gives (deliver (kind_of V.width V.valid V.allows) (ring_of V.bytes ring.now records.old rows.old (W.waiting wire.old) (W.capacity wire.old)) (message V.bytes m.now) (W.waiting wire.old)) (said result) (ring_of V.bytes ring.now records.new rows.new (W.waiting wire.new) (W.capacity wire.new)) }
+    ensures fit { true ≡ tables_fit (ring_of V.bytes ring.now records.new rows.new [] 0) }
 {
     if is_named(ring.faulty, m.to) {
         return 0;
@@ -77,9 +77,9 @@ pub fn bring<V: Value, W: Wire<V>>(
     place: usize,
     keep: bool,
 ) -> Result<usize, Refusal>
-    requires { true ≡ tables_fit (ring_of bytes ring.now records.old rows.old [] 0) }
-    ensures gives { Gives (bring_found (kind_of width valid allows) (ring_of bytes ring.now records.old rows.old (waiting wire.old) (capacity wire.old)) (looked (waiting wire.old) place) (if keep then waiting wire.old else taken (waiting wire.old) place)) (answer_of result) (ring_of bytes ring.now records.new rows.new (waiting wire.new) (capacity wire.new)) }
-    ensures fit { true ≡ tables_fit (ring_of bytes ring.now records.new rows.new [] 0) }
+    requires { true ≡ tables_fit (ring_of V.bytes ring.now records.old rows.old [] 0) }
+    ensures gives { Gives (bring_found (kind_of V.width V.valid V.allows) (ring_of V.bytes ring.now records.old rows.old (W.waiting wire.old) (W.capacity wire.old)) (looked (W.waiting wire.old) place) (if keep then W.waiting wire.old else taken (W.waiting wire.old) place)) (answer_of result) (ring_of V.bytes ring.now records.new rows.new (W.waiting wire.new) (W.capacity wire.new)) }
+    ensures fit { true ≡ tables_fit (ring_of V.bytes ring.now records.new rows.new [] 0) }
     ensures untouched { OnErr result ((records.new ≡ records.old) × (rows.new ≡ rows.old)) }
 {
     match admit(ring, wire, place) {

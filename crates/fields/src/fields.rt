@@ -11,7 +11,7 @@ use values::value::Value;
 // One field.
 pub fn field<V: Value>(own: &Record<V>, kind: u8) -> Keyed<V>
     requires { (6 ≤ kind) × (kind ≤ 9) }
-    ensures { keyed_of bytes result ≡ (record_of bytes own.now).field kind }
+    ensures { keyed_of V.bytes result ≡ (record_of V.bytes own.now).field kind }
 {
     match kind {
         6 => own.key1,
@@ -24,7 +24,7 @@ pub fn field<V: Value>(own: &Record<V>, kind: u8) -> Keyed<V>
 // The field moves to the view with this value. Where key1 or key2 changes its value, the old key becomes previous.
 pub fn move_field<V: Value>(own: &mut Record<V>, kind: u8, value: &V)
     requires { (6 ≤ kind) × (kind ≤ 9) }
-    ensures { (g : Setting) (me : ℕ) → record_of bytes own.new ≡ moved g me (record_of bytes own.old) kind (bytes value.now) }
+    ensures { (g : Setting) (me : ℕ) → record_of V.bytes own.new ≡ moved g me (record_of V.bytes own.old) kind (V.bytes value.now) }
 {
     let old = *own;
     let moved = Keyed {
@@ -63,7 +63,7 @@ pub fn move_field<V: Value>(own: &mut Record<V>, kind: u8, value: &V)
 
 // Enters a view: the contents of suggest and proof are fixed here, from what the earlier views left.
 pub fn enter_view<V: Value>(own: &mut Record<V>, view: u32)
-    ensures { (g : Setting) (me : ℕ) → record_of bytes own.new ≡ entered g me (record_of bytes own.old) view }
+    ensures { (g : Setting) (me : ℕ) → record_of V.bytes own.new ≡ entered g me (record_of V.bytes own.old) view }
 {
     let old = *own;
     *own = Record {

@@ -1,2 +1,4 @@
 // Writing the record: one field moves, or a view is entered.
+#![tactic(auto)]
+
 pub mod fields;

@@ -34,15 +34,15 @@ impl<'a> FrameWire<'a> {
 
 // How many frames fit whole into a buffer of this length.
 fn places_of<V: Value>(length: usize) -> usize
-    ensures { result ≡ length / frame_length width }
+    ensures { result ≡ length / frame_length V.width }
 {
     length / frame_length::<V>()
 }
 
 // What a place means.
 fn in_slot<V: Value>(buffer: &[u8], i: usize) -> Message<V>
-    requires { i < places width buffer.now }
-    ensures { message bytes result ≡ heard valid width (slot width buffer.now i) }
+    requires { i < places V.width buffer.now }
+    ensures { message V.bytes result ≡ heard V.valid V.width (slot V.width buffer.now i) }
 {
     let size = frame_length::<V>();
     let from = i * size;
@@ -54,8 +54,8 @@ fn in_slot<V: Value>(buffer: &[u8], i: usize) -> Message<V>
 
 // Writes a frame at a place.
 fn put_slot<V: Value>(buffer: &mut [u8], i: usize, m: &Message<V>)
-    requires { i < places width buffer.old }
-    ensures { buffer.new ≡ over buffer.old (i * frame_length width) (frame (message bytes m.now)) }
+    requires { i < places V.width buffer.old }
+    ensures { buffer.new ≡ over buffer.old (i * frame_length V.width) (frame (message V.bytes m.now)) }
 {
     let size = frame_length::<V>();
     write_frame_at(m, buffer, i * size);
@@ -63,8 +63,8 @@ fn put_slot<V: Value>(buffer: &mut [u8], i: usize, m: &Message<V>)
 
 // Moves the frames after place `i` up over it, as far as place `count`.
 fn close_slot<V: Value>(buffer: &mut [u8], i: usize, count: usize)
-    requires { (i < count) × (count ≤ places width buffer.old) }
-    ensures { buffer.new ≡ closed (frame_length width) buffer.old i count }
+    requires { (i < count) × (count ≤ places V.width buffer.old) }
+    ensures { buffer.new ≡ closed (frame_length V.width) buffer.old i count }
 {
     let size = frame_length::<V>();
     close_gap(buffer, i * size, size, count * size);
@@ -72,9 +72,9 @@ fn close_slot<V: Value>(buffer: &mut [u8], i: usize, count: usize)
 
 // Answers what place `i` means, and moves the later ones of the first `count` places up over it.
 fn take_slot<V: Value>(buffer: &mut [u8], i: usize, count: usize) -> Message<V>
-    requires { (i < count) × (count ≤ places width buffer.old) }
-    ensures value { message bytes result ≡ heard valid width (slot width buffer.old i) }
-    ensures after { buffer.new ≡ closed (frame_length width) buffer.old i count }
+    requires { (i < count) × (count ≤ places V.width buffer.old) }
+    ensures value { message V.bytes result ≡ heard V.valid V.width (slot V.width buffer.old i) }
+    ensures after { buffer.new ≡ closed (frame_length V.width) buffer.old i count }
 {
     let m = in_slot(buffer, i);
     close_slot::<V>(buffer, i, count);

@@ -8,9 +8,9 @@ ghost use Rattle.frames.specs.Answers.{written, buffer_after};
 ghost use Rattle.frames.specs.declared.fault.FrameFault.TheVariants.{NotFrame};
 
 use crate::fault::FrameFault;
-use octets::bytes::{put, u32_at, u32_bytes};
 use messages::message::Message;
 use messages::range::in_range;
+use octets::bytes::{put, u32_at, u32_bytes};
 use values::value::Value;
 
 // How many bytes stand before the values.
@@ -18,7 +18,7 @@ const HEAD: usize = 20;
 
 // How many bytes the frame of a message has.
 pub fn frame_length<V: Value>() -> usize
-    ensures { result ≡ frame_length width }
+    ensures { result ≡ frame_length V.width }
 {
     HEAD + 2 * V::width_of()
 }
@@ -42,7 +42,7 @@ fn previous_of(n: u32) -> Option<u32>
 
 // The bytes before the values.
 fn header<V: Value>(m: &Message<V>) -> [u8; 20]
-    ensures { result ≡ head (message bytes m.now) }
+    ensures { result ≡ head (message V.bytes m.now) }
 {
     let a = u32_bytes(m.view);
     let b = u32_bytes(m.key);
@@ -57,8 +57,8 @@ fn header<V: Value>(m: &Message<V>) -> [u8; 20]
 // Writes the frame of a message at a place of a buffer that has the room: the inner part of the
 // public calls, which test the room and the ranges.
 pub fn write_frame_at<V: Value>(m: &Message<V>, out: &mut [u8], at: usize)
-    requires { at + frame_length width ≤ length out.old }
-    ensures { out.new ≡ over out.old at (frame (message bytes m.now)) }
+    requires { at + frame_length V.width ≤ length out.old }
+    ensures { out.new ≡ over out.old at (frame (message V.bytes m.now)) }
 {
     let second = HEAD + V::width_of();
     let head = header(m);
@@ -71,9 +71,9 @@ pub fn write_frame_at<V: Value>(m: &Message<V>, out: &mut [u8], at: usize)
 // buffer that is too short, then a field out of range, and leaves the buffer untouched then.
 // What was written reads back as the message.
 pub fn write_frame<V: Value>(m: &Message<V>, out: &mut [u8]) -> Result<usize, FrameFault>
-    ensures answer { result ≡ written valid width (message bytes m.now) out.old }
-    ensures after { out.new ≡ buffer_after valid width (message bytes m.now) out.old }
-    ensures back { is_ok result ≡ true → unframe valid width (take (frame_length width) out.new) ≡ Some (message bytes m.now) }
+    ensures answer { result ≡ written V.valid V.width (message V.bytes m.now) out.old }
+    ensures after { out.new ≡ buffer_after V.valid V.width (message V.bytes m.now) out.old }
+    ensures back { is_ok result ≡ true → unframe V.valid V.width (take (frame_length V.width) out.new) ≡ Some (message V.bytes m.now) }
 {
     let length = frame_length::<V>();
     if out.len() < length {
@@ -89,7 +89,7 @@ pub fn write_frame<V: Value>(m: &Message<V>, out: &mut [u8]) -> Result<usize, Fr
 // The message that bytes spell. Refuses bytes of another length, and bytes that no message in
 // range writes. A frame that was read is written back byte for byte.
 pub fn read_frame<V: Value>(from: &[u8]) -> Result<Message<V>, FrameFault>
-    ensures { MatchResult result (λ m. (unframe valid width from.now ≡ Some (message bytes m)) × (frame (message bytes m) ≡ from.now)) (λ e. (unframe valid width from.now ≡ None) × (e ≡ NotFrame)) }
+    ensures { MatchResult result (λ m. (unframe V.valid V.width from.now ≡ Some (message V.bytes m)) × (frame (message V.bytes m) ≡ from.now)) (λ e. (unframe V.valid V.width from.now ≡ None) × (e ≡ NotFrame)) }
 {
     if from.len() != frame_length::<V>() {
         return Err(FrameFault::NotFrame);

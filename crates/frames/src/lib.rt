@@ -1,3 +1,5 @@
+#![tactic(auto)]
+
 pub mod codec;
 pub mod fault;
 pub mod figures;

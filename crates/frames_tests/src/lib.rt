@@ -1,3 +1,5 @@
+#![tactic(auto)]
+
 pub mod block_cases;
 pub mod case;
 pub mod order_cases;

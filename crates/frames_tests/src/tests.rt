@@ -1,8 +1,8 @@
 use crate::case::Case;
 use crate::{block_cases, order_cases};
-use octets::bytes::put;
 use frames::codec::{frame_length, read_frame, write_frame};
 use messages::message::Message;
+use octets::bytes::put;
 use std::process::Abort;
 use std::test::Fail;
 use values::block::Block;

@@ -16,14 +16,14 @@ use values::value::Value;
 
 // Whether the party has not decided.
 fn is_open<V: Value>(own: &Record<V>) -> bool
-    ensures { result ≡ none (record_of bytes own.now).decision }
+    ensures { result ≡ none (record_of V.bytes own.now).decision }
 {
     own.decision.is_none()
 }
 
 // Whether there is no proposal yet in this view.
 fn no_proposal<V: Value>(own: &Record<V>) -> bool
-    ensures { (g : Setting) → result ≡ is_nothing g (proposal_of bytes own.now.proposal) }
+    ensures { (g : Setting) → result ≡ is_nothing g (proposal_of V.bytes own.now.proposal) }
 {
     match &own.proposal {
         Proposal::Nothing => true,
@@ -33,7 +33,7 @@ fn no_proposal<V: Value>(own: &Record<V>) -> bool
 
 // Whether the sender has not voted by this kind in this view: 5 echo, 6 key1, 7 key2, 8 key3, 9 lock.
 fn no_vote<V: Value>(row: &Row<V>, kind: u8) -> bool
-    ensures { result ≡ none ((row_of bytes row.now).vote kind) }
+    ensures { result ≡ none ((row_of V.bytes row.now).vote kind) }
 {
     match kind {
         5 => row.echo.is_none(),
@@ -47,7 +47,7 @@ fn no_vote<V: Value>(row: &Row<V>, kind: u8) -> bool
 
 // Whether a message of this kind is the first of its sender, in the view or, for a done, in the shift.
 fn is_first<V: Value>(own: &Record<V>, row: &Row<V>, kind: u8) -> bool
-    ensures { (g : Setting) → result ≡ first_by g (proposal_of bytes own.now.proposal) (row_of bytes row.now) kind }
+    ensures { (g : Setting) → result ≡ first_by g (proposal_of V.bytes own.now.proposal) (row_of V.bytes row.now) kind }
 {
     match kind {
         2 => row.suggest.is_none(),
@@ -88,7 +88,7 @@ fn takes_in(kind: u8, vacant: bool, asked: bool, here: bool, led: bool, first: b
 // Whether a party takes a message in.
 pub fn heeds<V: Value>(seat: Seat, own: &Record<V>, rows: &[Row<V>], m: &Message<V>) -> bool
     requires { (1 ≤ m.now.from) × (m.now.from ≤ length rows.now) }
-    ensures { result ≡ heeded (setting_of width allows seat) seat.me (party_of bytes own.now rows.now) (message bytes m.now) }
+    ensures { result ≡ heeded (setting_of V.width V.allows seat) seat.me (party_of V.bytes own.now rows.now) (message V.bytes m.now) }
 {
     let row = row_from(rows, m.from);
     let led = is_led(seat.me, primary_of::<V>(seat, own.view), m.from, m.kind);

@@ -28,7 +28,7 @@ pub fn has_both<V: Value>(ring: &Ring, m: &Message<V>) -> bool
 
 // Whether the wire has room for what one step may post.
 pub fn has_room<V: Value, W: Wire<V>>(ring: &Ring, wire: &W) -> bool
-    ensures { result ≡ nat_le (step_room ring.now.n) (room_left (capacity wire.now) (waiting wire.now)) }
+    ensures { result ≡ nat_le (step_room ring.now.n) (room_left (W.capacity wire.now) (W.waiting wire.now)) }
 {
     3 * ring.n as usize + 8 <= wire.room()
 }

@@ -1,2 +1,4 @@
+#![tactic(auto)]
+
 pub mod message;
 pub mod range;

@@ -48,7 +48,7 @@ pub fn previous_fits(used: bool, previous: Option<u32>) -> bool
 
 // Whether a value may stand in a field: only the blank where the field is not used.
 pub fn value_fits<V: Value>(used: bool, value: &V) -> bool
-    ensures { result ≡ value_fits valid width used (bytes value.now) }
+    ensures { result ≡ value_fits V.valid V.width used (V.bytes value.now) }
 {
     used || value.same(&V::blank())
 }
@@ -76,7 +76,7 @@ fn uses_value(kind: u8) -> bool
 
 // Whether every field of a message is in range.
 pub fn in_range<V: Value>(m: &Message<V>) -> bool
-    ensures { result ≡ in_range valid width (message bytes m.now) }
+    ensures { result ≡ in_range V.valid V.width (message V.bytes m.now) }
 {
     let second = m.kind == 2;
     1 <= m.kind

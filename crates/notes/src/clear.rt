@@ -8,7 +8,7 @@ use values::value::Value;
 
 // Empties every row of what belongs to a view.
 pub fn clear_rows<V: Value>(rows: &mut [Row<V>])
-    ensures { rows_of bytes rows.new ≡ (λ j. cleared (rows_of bytes rows.old j)) }
+    ensures { rows_of V.bytes rows.new ≡ (λ j. cleared (rows_of V.bytes rows.old j)) }
 {
     for row in rows.iter_mut() {
         *row = Row {

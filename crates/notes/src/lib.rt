@@ -1,4 +1,6 @@
 // Reading and writing the rows: one row, what a message leaves in it, and what a new view takes away.
+#![tactic(auto)]
+
 pub mod clear;
 pub mod notes;
 pub mod rows;

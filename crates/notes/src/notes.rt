@@ -12,7 +12,7 @@ use values::value::Value;
 // The sender's highest request.
 pub fn note_request<V: Value>(rows: &mut [Row<V>], from: u8, view: u32)
     requires { (1 ≤ from) × (from ≤ length rows.old) }
-    ensures { rows_of bytes rows.new ≡ upd (rows_of bytes rows.old) from (with_request (rows_of bytes rows.old from) view) }
+    ensures { rows_of V.bytes rows.new ≡ upd (rows_of V.bytes rows.old) from (with_request (rows_of V.bytes rows.old from) view) }
 {
     let row = row_from(rows, from);
     put_row(
@@ -28,7 +28,7 @@ pub fn note_request<V: Value>(rows: &mut [Row<V>], from: u8, view: u32)
 // The sender's highest abort.
 pub fn note_abort<V: Value>(rows: &mut [Row<V>], from: u8, view: u32)
     requires { (1 ≤ from) × (from ≤ length rows.old) }
-    ensures { rows_of bytes rows.new ≡ upd (rows_of bytes rows.old) from (with_abort (rows_of bytes rows.old from) view) }
+    ensures { rows_of V.bytes rows.new ≡ upd (rows_of V.bytes rows.old) from (with_abort (rows_of V.bytes rows.old from) view) }
 {
     let row = row_from(rows, from);
     put_row(rows, from, &Row { abort: view, ..row });
@@ -37,7 +37,7 @@ pub fn note_abort<V: Value>(rows: &mut [Row<V>], from: u8, view: u32)
 // The sender's done.
 pub fn note_done<V: Value>(rows: &mut [Row<V>], from: u8, value: &V)
     requires { (1 ≤ from) × (from ≤ length rows.old) }
-    ensures { rows_of bytes rows.new ≡ upd (rows_of bytes rows.old) from (with_told (rows_of bytes rows.old from) (bytes value.now)) }
+    ensures { rows_of V.bytes rows.new ≡ upd (rows_of V.bytes rows.old) from (with_told (rows_of V.bytes rows.old from) (V.bytes value.now)) }
 {
     let row = row_from(rows, from);
     put_row(
@@ -53,7 +53,7 @@ pub fn note_done<V: Value>(rows: &mut [Row<V>], from: u8, value: &V)
 // The sender's suggest of this view.
 pub fn note_suggest<V: Value>(rows: &mut [Row<V>], from: u8, suggest: &Suggest<V>)
     requires { (1 ≤ from) × (from ≤ length rows.old) }
-    ensures { rows_of bytes rows.new ≡ upd (rows_of bytes rows.old) from (with_suggest (rows_of bytes rows.old from) (suggest_of bytes suggest.now)) }
+    ensures { rows_of V.bytes rows.new ≡ upd (rows_of V.bytes rows.old) from (with_suggest (rows_of V.bytes rows.old from) (suggest_of V.bytes suggest.now)) }
 {
     let row = row_from(rows, from);
     put_row(
@@ -69,7 +69,7 @@ pub fn note_suggest<V: Value>(rows: &mut [Row<V>], from: u8, suggest: &Suggest<V
 // The sender's proof of this view.
 pub fn note_proof<V: Value>(rows: &mut [Row<V>], from: u8, proof: &Proof<V>)
     requires { (1 ≤ from) × (from ≤ length rows.old) }
-    ensures { rows_of bytes rows.new ≡ upd (rows_of bytes rows.old) from (with_proof (rows_of bytes rows.old from) (proof_of bytes proof.now)) }
+    ensures { rows_of V.bytes rows.new ≡ upd (rows_of V.bytes rows.old) from (with_proof (rows_of V.bytes rows.old from) (proof_of V.bytes proof.now)) }
 {
     let row = row_from(rows, from);
     put_row(
@@ -85,7 +85,7 @@ pub fn note_proof<V: Value>(rows: &mut [Row<V>], from: u8, proof: &Proof<V>)
 // The row with a vote: 5 echo, 6 key1, 7 key2, 8 key3, 9 lock.
 fn voted_row<V: Value>(row: Row<V>, kind: u8, value: &V) -> Row<V>
     requires { (5 ≤ kind) × (kind ≤ 9) }
-    ensures { row_of bytes result ≡ with_vote (row_of bytes row) kind (bytes value.now) }
+    ensures { row_of V.bytes result ≡ with_vote (row_of V.bytes row) kind (V.bytes value.now) }
 {
     match kind {
         5 => Row {
@@ -114,7 +114,7 @@ fn voted_row<V: Value>(row: Row<V>, kind: u8, value: &V) -> Row<V>
 // The sender's vote of this kind in this view.
 pub fn note_vote<V: Value>(rows: &mut [Row<V>], from: u8, kind: u8, value: &V)
     requires { (1 ≤ from) × (from ≤ length rows.old) × (5 ≤ kind) × (kind ≤ 9) }
-    ensures { rows_of bytes rows.new ≡ upd (rows_of bytes rows.old) from (with_vote (rows_of bytes rows.old from) kind (bytes value.now)) }
+    ensures { rows_of V.bytes rows.new ≡ upd (rows_of V.bytes rows.old) from (with_vote (rows_of V.bytes rows.old from) kind (V.bytes value.now)) }
 {
     let row = row_from(rows, from);
     put_row(rows, from, &voted_row(row, kind, value));

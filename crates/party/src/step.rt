@@ -32,8 +32,8 @@ fn on_key3<V: Value, W: Wire<V>>(
     m: &Message<V>,
 ) -> usize
     requires whole { (length rows.old ≡ seat.n) × (1 ≤ m.now.from) × (m.now.from ≤ seat.n) × (m.now.kind ≡ 8) }
-    requires taken { Takes valid width (capacity w.old) (waiting w.old) (and_then (on_vote (setting_of width allows seat) seat.me (party_of bytes own.old rows.old) (message bytes m.now)) (wake (setting_of width allows seat) seat.me)).posts }
-    ensures { Does (and_then (on_vote (setting_of width allows seat) seat.me (party_of bytes own.old rows.old) (message bytes m.now)) (wake (setting_of width allows seat) seat.me)) (party_of bytes own.new rows.new) (waiting w.old) (waiting w.new) (capacity w.old) (capacity w.new) result }
+    requires taken { Takes V.valid V.width (W.capacity w.old) (W.waiting w.old) (and_then (on_vote (setting_of V.width V.allows seat) seat.me (party_of V.bytes own.old rows.old) (message V.bytes m.now)) (wake (setting_of V.width V.allows seat) seat.me)).posts }
+    ensures { Does (and_then (on_vote (setting_of V.width V.allows seat) seat.me (party_of V.bytes own.old rows.old) (message V.bytes m.now)) (wake (setting_of V.width V.allows seat) seat.me)) (party_of V.bytes own.new rows.new) (W.waiting w.old) (W.waiting w.new) (W.capacity w.old) (W.capacity w.new) result }
 {
     let votes = on_vote(seat, own, rows, w, m);
     let echoes = wake_proposal(seat, own, rows, w, m);
@@ -48,9 +48,9 @@ fn by_kind<V: Value, W: Wire<V>>(
     w: &mut W,
     m: &Message<V>,
 ) -> usize
-    requires whole { (length rows.old ≡ seat.n) × (1 ≤ m.now.from) × (m.now.from ≤ seat.n) × (1 ≤ m.now.kind) × (m.now.kind ≤ 11) × (m.now.kind ≡ 4 → proposal_of bytes own.old.proposal ≡ nothing) }
-    requires taken { Takes valid width (capacity w.old) (waiting w.old) (react (setting_of width allows seat) seat.me (party_of bytes own.old rows.old) (message bytes m.now)).posts }
-    ensures { Does (react (setting_of width allows seat) seat.me (party_of bytes own.old rows.old) (message bytes m.now)) (party_of bytes own.new rows.new) (waiting w.old) (waiting w.new) (capacity w.old) (capacity w.new) result }
+    requires whole { (length rows.old ≡ seat.n) × (1 ≤ m.now.from) × (m.now.from ≤ seat.n) × (1 ≤ m.now.kind) × (m.now.kind ≤ 11) × (m.now.kind ≡ 4 → proposal_of V.bytes own.old.proposal ≡ nothing) }
+    requires taken { Takes V.valid V.width (W.capacity w.old) (W.waiting w.old) (react (setting_of V.width V.allows seat) seat.me (party_of V.bytes own.old rows.old) (message V.bytes m.now)).posts }
+    ensures { Does (react (setting_of V.width V.allows seat) seat.me (party_of V.bytes own.old rows.old) (message V.bytes m.now)) (party_of V.bytes own.new rows.new) (W.waiting w.old) (W.waiting w.new) (W.capacity w.old) (W.capacity w.new) result }
 {
     match m.kind {
         1 => on_request(seat, own, rows, w, m),
@@ -74,8 +74,8 @@ fn take_in<V: Value, W: Wire<V>>(
     m: &Message<V>,
 ) -> usize
     requires whole { (length rows.old ≡ seat.n) × (1 ≤ m.now.from) × (m.now.from ≤ seat.n) × (1 ≤ m.now.kind) × (m.now.kind ≤ 11) }
-    requires taken { Takes valid width (capacity w.old) (waiting w.old) (stepped (setting_of width allows seat) seat.me (party_of bytes own.old rows.old) (message bytes m.now)).posts }
-    ensures { Does (stepped (setting_of width allows seat) seat.me (party_of bytes own.old rows.old) (message bytes m.now)) (party_of bytes own.new rows.new) (waiting w.old) (waiting w.new) (capacity w.old) (capacity w.new) result }
+    requires taken { Takes V.valid V.width (W.capacity w.old) (W.waiting w.old) (stepped (setting_of V.width V.allows seat) seat.me (party_of V.bytes own.old rows.old) (message V.bytes m.now)).posts }
+    ensures { Does (stepped (setting_of V.width V.allows seat) seat.me (party_of V.bytes own.old rows.old) (message V.bytes m.now)) (party_of V.bytes own.new rows.new) (W.waiting w.old) (W.waiting w.new) (W.capacity w.old) (W.capacity w.new) result }
 {
     if heeds(seat, own, rows, m) {
         by_kind(seat, own, rows, w, m)
@@ -94,11 +94,11 @@ pub fn step<V: Value, W: Wire<V>>(
     m: &Message<V>,
 ) -> usize
     requires whole { length rows.old ≡ seat.n }
-    requires fits { party_fits seat.n (party_of bytes own.old rows.old) ≡ true }
-    requires proper { Proper valid (setting_of width allows seat) (message bytes m.now) }
-    requires room { length (waiting w.old) + most_posts seat.n ≤ capacity w.old }
-    ensures step { Does (stepped (setting_of width allows seat) seat.me (party_of bytes own.old rows.old) (message bytes m.now)) (party_of bytes own.new rows.new) (waiting w.old) (waiting w.new) (capacity w.old) (capacity w.new) result }
-    ensures fits { party_fits seat.n (party_of bytes own.new rows.new) ≡ true }
+    requires fits { party_fits seat.n (party_of V.bytes own.old rows.old) ≡ true }
+    requires proper { Proper V.valid (setting_of V.width V.allows seat) (message V.bytes m.now) }
+    requires room { length (W.waiting w.old) + most_posts seat.n ≤ W.capacity w.old }
+    ensures step { Does (stepped (setting_of V.width V.allows seat) seat.me (party_of V.bytes own.old rows.old) (message V.bytes m.now)) (party_of V.bytes own.new rows.new) (W.waiting w.old) (W.waiting w.new) (W.capacity w.old) (W.capacity w.new) result }
+    ensures fits { party_fits seat.n (party_of V.bytes own.new rows.new) ≡ true }
 {
     take_in(seat, own, rows, w, m)
 }
@@ -111,11 +111,11 @@ pub fn timer<V: Value, W: Wire<V>>(
     w: &mut W,
 ) -> usize
     requires whole { length rows.old ≡ seat.n }
-    requires fits { party_fits seat.n (party_of bytes own.old rows.old) ≡ true }
+    requires fits { party_fits seat.n (party_of V.bytes own.old rows.old) ≡ true }
     requires early { own.old.view < last_view }
-    requires room { length (waiting w.old) + most_posts seat.n ≤ capacity w.old }
-    ensures step { Does (on_timer (setting_of width allows seat) seat.me (party_of bytes own.old rows.old)) (party_of bytes own.new rows.new) (waiting w.old) (waiting w.new) (capacity w.old) (capacity w.new) result }
-    ensures fits { party_fits seat.n (party_of bytes own.new rows.new) ≡ true }
+    requires room { length (W.waiting w.old) + most_posts seat.n ≤ W.capacity w.old }
+    ensures step { Does (on_timer (setting_of V.width V.allows seat) seat.me (party_of V.bytes own.old rows.old)) (party_of V.bytes own.new rows.new) (W.waiting w.old) (W.waiting w.new) (W.capacity w.old) (W.capacity w.new) result }
+    ensures fits { party_fits seat.n (party_of V.bytes own.new rows.new) ≡ true }
 {
     on_time_out(seat, own, rows, w)
 }

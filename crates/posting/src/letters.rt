@@ -11,7 +11,7 @@ use values::value::Value;
 
 // A request (1) or an abort (11).
 pub(crate) fn view_letter<V: Value>(seat: Seat, kind: u8, view: u32, to: u8) -> Message<V>
-    ensures { message bytes result ≡ view_msg (setting_of width allows seat) seat.me kind view to }
+    ensures { message V.bytes result ≡ view_msg (setting_of V.width V.allows seat) seat.me kind view to }
 {
     Message {
         kind,
@@ -27,7 +27,7 @@ pub(crate) fn view_letter<V: Value>(seat: Seat, kind: u8, view: u32, to: u8) -> 
 }
 
 pub fn suggest_letter<V: Value>(seat: Seat, view: u32, suggest: &Suggest<V>, to: u8) -> Message<V>
-    ensures { message bytes result ≡ suggest_msg (setting_of width allows seat) seat.me view (suggest_of bytes suggest.now) to }
+    ensures { message V.bytes result ≡ suggest_msg (setting_of V.width V.allows seat) seat.me view (suggest_of V.bytes suggest.now) to }
 {
     Message {
         kind: 2,
@@ -43,7 +43,7 @@ pub fn suggest_letter<V: Value>(seat: Seat, view: u32, suggest: &Suggest<V>, to:
 }
 
 pub fn proof_letter<V: Value>(seat: Seat, view: u32, proof: &Proof<V>, to: u8) -> Message<V>
-    ensures { message bytes result ≡ proof_msg (setting_of width allows seat) seat.me view (proof_of bytes proof.now) to }
+    ensures { message V.bytes result ≡ proof_msg (setting_of V.width V.allows seat) seat.me view (proof_of V.bytes proof.now) to }
 {
     Message {
         kind: 3,
@@ -59,7 +59,7 @@ pub fn proof_letter<V: Value>(seat: Seat, view: u32, proof: &Proof<V>, to: u8) -
 }
 
 pub fn propose_letter<V: Value>(seat: Seat, view: u32, offer: &Keyed<V>, to: u8) -> Message<V>
-    ensures { message bytes result ≡ propose_msg (setting_of width allows seat) seat.me view (keyed_of bytes offer.now) to }
+    ensures { message V.bytes result ≡ propose_msg (setting_of V.width V.allows seat) seat.me view (keyed_of V.bytes offer.now) to }
 {
     Message {
         kind: 4,
@@ -76,7 +76,7 @@ pub fn propose_letter<V: Value>(seat: Seat, view: u32, offer: &Keyed<V>, to: u8)
 
 // An echo, key1, key2, key3 or lock (5 to 9), or a done (10) with view 0.
 pub fn vote_letter<V: Value>(seat: Seat, kind: u8, view: u32, value: &V, to: u8) -> Message<V>
-    ensures { message bytes result ≡ vote_msg (setting_of width allows seat) seat.me kind view (bytes value.now) to }
+    ensures { message V.bytes result ≡ vote_msg (setting_of V.width V.allows seat) seat.me kind view (V.bytes value.now) to }
 {
     Message {
         kind,

@@ -1,3 +1,5 @@
+#![tactic(auto)]
+
 pub mod audience;
 pub mod letters;
 pub mod post;

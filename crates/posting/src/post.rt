@@ -14,8 +14,8 @@ use wires::wire::Wire;
 
 // Posts one message, and answers 1.
 pub fn post_one<V: Value, W: Wire<V>>(w: &mut W, m: &Message<V>) -> usize
-    requires { Takes valid width (capacity w.old) (waiting w.old) (message bytes m.now ∷ []) }
-    ensures { Posted (waiting w.old) (waiting w.new) (capacity w.old) (capacity w.new) result (message bytes m.now ∷ []) }
+    requires { Takes V.valid V.width (W.capacity w.old) (W.waiting w.old) (message V.bytes m.now ∷ []) }
+    ensures { Posted (W.waiting w.old) (W.waiting w.new) (W.capacity w.old) (W.capacity w.new) result (message V.bytes m.now ∷ []) }
 {
     // it is in range, and there is room
     let _ = w.post(m);
@@ -24,7 +24,7 @@ pub fn post_one<V: Value, W: Wire<V>>(w: &mut W, m: &Message<V>) -> usize
 
 // Whether a party with this row is among the audience.
 fn goes_to<V: Value>(whom: Audience, row: &Row<V>) -> bool
-    ensures { result ≡ goes whom (row_of bytes row.now) }
+    ensures { result ≡ goes whom (row_of V.bytes row.now) }
 {
     match whom {
         Audience::All => true,
@@ -41,8 +41,8 @@ pub fn post_each<V: Value, W: Wire<V>>(
     m: &Message<V>,
 ) -> usize
     requires whole { length rows.now ≡ seat.n }
-    requires taken { Takes valid width (capacity w.old) (waiting w.old) (to_each (λ j. goes whom (rows_of bytes rows.now j)) (addressed (message bytes m.now)) seat.n) }
-    ensures { Posted (waiting w.old) (waiting w.new) (capacity w.old) (capacity w.new) result (to_each (λ j. goes whom (rows_of bytes rows.now j)) (addressed (message bytes m.now)) seat.n) }
+    requires taken { Takes V.valid V.width (W.capacity w.old) (W.waiting w.old) (to_each (λ j. goes whom (rows_of V.bytes rows.now j)) (addressed (message V.bytes m.now)) seat.n) }
+    ensures { Posted (W.waiting w.old) (W.waiting w.new) (W.capacity w.old) (W.capacity w.new) result (to_each (λ j. goes whom (rows_of V.bytes rows.now j)) (addressed (message V.bytes m.now)) seat.n) }
 {
     let mut posts = 0;
     for i in 0..rows.len() {

@@ -23,8 +23,8 @@ pub fn send_view<V: Value, W: Wire<V>>(
     view: u32,
 ) -> usize
     requires whole { length rows.now ≡ seat.n }
-    requires taken { Takes valid width (capacity w.old) (waiting w.old) (to_all (setting_of width allows seat) seat.me (view_msg (setting_of width allows seat) seat.me kind view)) }
-    ensures { Posted (waiting w.old) (waiting w.new) (capacity w.old) (capacity w.new) result (to_all (setting_of width allows seat) seat.me (view_msg (setting_of width allows seat) seat.me kind view)) }
+    requires taken { Takes V.valid V.width (W.capacity w.old) (W.waiting w.old) (to_all (setting_of V.width V.allows seat) seat.me (view_msg (setting_of V.width V.allows seat) seat.me kind view)) }
+    ensures { Posted (W.waiting w.old) (W.waiting w.new) (W.capacity w.old) (W.capacity w.new) result (to_all (setting_of V.width V.allows seat) seat.me (view_msg (setting_of V.width V.allows seat) seat.me kind view)) }
 {
     let m = view_letter(seat, kind, view, seat.me);
     post_each(seat, rows, w, Audience::All, &m)
@@ -33,8 +33,8 @@ pub fn send_view<V: Value, W: Wire<V>>(
 // Sends done to all.
 pub fn send_done<V: Value, W: Wire<V>>(seat: Seat, rows: &[Row<V>], w: &mut W, value: &V) -> usize
     requires whole { length rows.now ≡ seat.n }
-    requires taken { Takes valid width (capacity w.old) (waiting w.old) (to_all (setting_of width allows seat) seat.me (vote_msg (setting_of width allows seat) seat.me 10 0 (bytes value.now))) }
-    ensures { Posted (waiting w.old) (waiting w.new) (capacity w.old) (capacity w.new) result (to_all (setting_of width allows seat) seat.me (vote_msg (setting_of width allows seat) seat.me 10 0 (bytes value.now))) }
+    requires taken { Takes V.valid V.width (W.capacity w.old) (W.waiting w.old) (to_all (setting_of V.width V.allows seat) seat.me (vote_msg (setting_of V.width V.allows seat) seat.me 10 0 (V.bytes value.now))) }
+    ensures { Posted (W.waiting w.old) (W.waiting w.new) (W.capacity w.old) (W.capacity w.new) result (to_all (setting_of V.width V.allows seat) seat.me (vote_msg (setting_of V.width V.allows seat) seat.me 10 0 (V.bytes value.now))) }
 {
     let m = vote_letter(seat, 10, 0, value, seat.me);
     post_each(seat, rows, w, Audience::All, &m)
@@ -48,8 +48,8 @@ pub fn make_proof<V: Value, W: Wire<V>>(
     w: &mut W,
 ) -> usize
     requires whole { length rows.now ≡ seat.n }
-    requires taken { Takes valid width (capacity w.old) (waiting w.old) (to_joined (setting_of width allows seat) seat.me (party_of bytes own.now rows.now) (proof_msg (setting_of width allows seat) seat.me own.now.view (record_of bytes own.now).proof)) }
-    ensures { Posted (waiting w.old) (waiting w.new) (capacity w.old) (capacity w.new) result (to_joined (setting_of width allows seat) seat.me (party_of bytes own.now rows.now) (proof_msg (setting_of width allows seat) seat.me own.now.view (record_of bytes own.now).proof)) }
+    requires taken { Takes V.valid V.width (W.capacity w.old) (W.waiting w.old) (to_joined (setting_of V.width V.allows seat) seat.me (party_of V.bytes own.now rows.now) (proof_msg (setting_of V.width V.allows seat) seat.me own.now.view (record_of V.bytes own.now).proof)) }
+    ensures { Posted (W.waiting w.old) (W.waiting w.new) (W.capacity w.old) (W.capacity w.new) result (to_joined (setting_of V.width V.allows seat) seat.me (party_of V.bytes own.now rows.now) (proof_msg (setting_of V.width V.allows seat) seat.me own.now.view (record_of V.bytes own.now).proof)) }
 {
     let m = proof_letter(seat, own.view, &own.proof, seat.me);
     post_each(seat, rows, w, Audience::Joined(own.view), &m)
@@ -64,8 +64,8 @@ pub fn make_propose<V: Value, W: Wire<V>>(
     offer: &Keyed<V>,
 ) -> usize
     requires whole { length rows.now ≡ seat.n }
-    requires taken { Takes valid width (capacity w.old) (waiting w.old) (to_joined (setting_of width allows seat) seat.me (party_of bytes own.now rows.now) (propose_msg (setting_of width allows seat) seat.me own.now.view (keyed_of bytes offer.now))) }
-    ensures { Posted (waiting w.old) (waiting w.new) (capacity w.old) (capacity w.new) result (to_joined (setting_of width allows seat) seat.me (party_of bytes own.now rows.now) (propose_msg (setting_of width allows seat) seat.me own.now.view (keyed_of bytes offer.now))) }
+    requires taken { Takes V.valid V.width (W.capacity w.old) (W.waiting w.old) (to_joined (setting_of V.width V.allows seat) seat.me (party_of V.bytes own.now rows.now) (propose_msg (setting_of V.width V.allows seat) seat.me own.now.view (keyed_of V.bytes offer.now))) }
+    ensures { Posted (W.waiting w.old) (W.waiting w.new) (W.capacity w.old) (W.capacity w.new) result (to_joined (setting_of V.width V.allows seat) seat.me (party_of V.bytes own.now rows.now) (propose_msg (setting_of V.width V.allows seat) seat.me own.now.view (keyed_of V.bytes offer.now))) }
 {
     let m = propose_letter(seat, own.view, offer, seat.me);
     post_each(seat, rows, w, Audience::Joined(own.view), &m)
@@ -81,8 +81,8 @@ pub fn make_vote<V: Value, W: Wire<V>>(
     value: &V,
 ) -> usize
     requires whole { length rows.now ≡ seat.n }
-    requires taken { Takes valid width (capacity w.old) (waiting w.old) (to_joined (setting_of width allows seat) seat.me (party_of bytes own.now rows.now) (vote_msg (setting_of width allows seat) seat.me kind own.now.view (bytes value.now))) }
-    ensures { Posted (waiting w.old) (waiting w.new) (capacity w.old) (capacity w.new) result (to_joined (setting_of width allows seat) seat.me (party_of bytes own.now rows.now) (vote_msg (setting_of width allows seat) seat.me kind own.now.view (bytes value.now))) }
+    requires taken { Takes V.valid V.width (W.capacity w.old) (W.waiting w.old) (to_joined (setting_of V.width V.allows seat) seat.me (party_of V.bytes own.now rows.now) (vote_msg (setting_of V.width V.allows seat) seat.me kind own.now.view (V.bytes value.now))) }
+    ensures { Posted (W.waiting w.old) (W.waiting w.new) (W.capacity w.old) (W.capacity w.new) result (to_joined (setting_of V.width V.allows seat) seat.me (party_of V.bytes own.now rows.now) (vote_msg (setting_of V.width V.allows seat) seat.me kind own.now.view (V.bytes value.now))) }
 {
     let m = vote_letter(seat, kind, own.view, value, seat.me);
     post_each(seat, rows, w, Audience::Joined(own.view), &m)

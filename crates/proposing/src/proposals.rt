@@ -28,7 +28,7 @@ fn next_proposal<V: Value>(
     waits: bool,
     freed: bool,
 ) -> Proposal<V>
-    ensures { proposal_of bytes result ≡ next_state (proposal_of bytes state) kind (bytes value) fits waits freed }
+    ensures { proposal_of V.bytes result ≡ next_state (proposal_of V.bytes state) kind (V.bytes value) fits waits freed }
 {
     match (state, kind) {
         (Proposal::Nothing, 4) if fits => Proposal::Echoed(value),
@@ -42,7 +42,7 @@ fn next_proposal<V: Value>(
 
 // Whether the proposal is echoed or dropped.
 fn settled_already<V: Value>(own: &Record<V>) -> bool
-    ensures { result ≡ is_settled (record_of bytes own.now).proposal }
+    ensures { result ≡ is_settled (record_of V.bytes own.now).proposal }
 {
     match &own.proposal {
         Proposal::Nothing => false,
@@ -54,7 +54,7 @@ fn settled_already<V: Value>(own: &Record<V>) -> bool
 
 // Whether the proposal waits and is for the value of the lock.
 fn held_by_lock<V: Value>(own: &Record<V>) -> bool
-    ensures { result ≡ is_held ((record_of bytes own.now).field 9).value (record_of bytes own.now).proposal }
+    ensures { result ≡ is_held ((record_of V.bytes own.now).field 9).value (record_of V.bytes own.now).proposal }
 {
     match &own.proposal {
         Proposal::Waiting(v) => own.lock.value.same(v),
@@ -66,14 +66,14 @@ fn held_by_lock<V: Value>(own: &Record<V>) -> bool
 
 // Whether a proposal may be echoed at once: it is allowed, and there is no lock or it is the lock's value.
 fn echoes_now<V: Value>(seat: Seat, own: &Record<V>, value: &V) -> bool
-    ensures { result ≡ (allows (bytes value.now) && lock_fits (setting_of width allows seat) seat.me (record_of bytes own.now) (bytes value.now)) }
+    ensures { result ≡ (V.allows (V.bytes value.now) && lock_fits (setting_of V.width V.allows seat) seat.me (record_of V.bytes own.now) (V.bytes value.now)) }
 {
     value.allowed() && fits_lock(seat, own, value)
 }
 
 // Whether a proposal may wait: it is allowed, and its key is at least as new as the lock and below the view.
 fn waits_now<V: Value>(seat: Seat, own: &Record<V>, value: &V, key: u32) -> bool
-    ensures { result ≡ (allows (bytes value.now) && may_wait (setting_of width allows seat) seat.me (record_of bytes own.now) key) }
+    ensures { result ≡ (V.allows (V.bytes value.now) && may_wait (setting_of V.width V.allows seat) seat.me (record_of V.bytes own.now) key) }
 {
     value.allowed() && own.lock.at <= key && key < own.view
 }
@@ -81,7 +81,7 @@ fn waits_now<V: Value>(seat: Seat, own: &Record<V>, value: &V, key: u32) -> bool
 // Whether a waiting proposal is freed: the lock is on its value, or a voucher of proofs opens the lock.
 fn freed_now<V: Value>(seat: Seat, own: &Record<V>, rows: &[Row<V>]) -> bool
     requires { length rows.now ≡ seat.n }
-    ensures { result ≡ (is_held ((record_of bytes own.now).field 9).value (record_of bytes own.now).proposal || lock_opened (setting_of width allows seat) (party_of bytes own.now rows.now)) }
+    ensures { result ≡ (is_held ((record_of V.bytes own.now).field 9).value (record_of V.bytes own.now).proposal || lock_opened (setting_of V.width V.allows seat) (party_of V.bytes own.now rows.now)) }
 {
     held_by_lock(own) || opened(seat, own, rows)
 }
@@ -94,7 +94,7 @@ fn after_message<V: Value>(
     m: &Message<V>,
 ) -> Proposal<V>
     requires { length rows.now ≡ seat.n }
-    ensures { proposal_of bytes result ≡ next_of (setting_of width allows seat) seat.me (party_of bytes own.now rows.now) (message bytes m.now) }
+    ensures { proposal_of V.bytes result ≡ next_of (setting_of V.width V.allows seat) seat.me (party_of V.bytes own.now rows.now) (message V.bytes m.now) }
 {
     let echoes = echoes_now(seat, own, &m.value);
     let waits = waits_now(seat, own, &m.value, m.key);
@@ -111,8 +111,8 @@ fn take_state<V: Value, W: Wire<V>>(
     state: Proposal<V>,
 ) -> usize
     requires whole { length rows.now ≡ seat.n }
-    requires taken { Takes valid width (capacity w.old) (waiting w.old) (take_up (setting_of width allows seat) seat.me (party_of bytes own.old rows.now) (proposal_of bytes state)).posts }
-    ensures { Does (take_up (setting_of width allows seat) seat.me (party_of bytes own.old rows.now) (proposal_of bytes state)) (party_of bytes own.new rows.now) (waiting w.old) (waiting w.new) (capacity w.old) (capacity w.new) result }
+    requires taken { Takes V.valid V.width (W.capacity w.old) (W.waiting w.old) (take_up (setting_of V.width V.allows seat) seat.me (party_of V.bytes own.old rows.now) (proposal_of V.bytes state)).posts }
+    ensures { Does (take_up (setting_of V.width V.allows seat) seat.me (party_of V.bytes own.old rows.now) (proposal_of V.bytes state)) (party_of V.bytes own.new rows.now) (W.waiting w.old) (W.waiting w.new) (W.capacity w.old) (W.capacity w.new) result }
 {
     match state {
         Proposal::Echoed(v) => {
@@ -144,8 +144,8 @@ fn settle<V: Value, W: Wire<V>>(
     m: &Message<V>,
 ) -> usize
     requires whole { length rows.now ≡ seat.n }
-    requires taken { Takes valid width (capacity w.old) (waiting w.old) (settled (setting_of width allows seat) seat.me (party_of bytes own.old rows.now) (message bytes m.now)).posts }
-    ensures { Does (settled (setting_of width allows seat) seat.me (party_of bytes own.old rows.now) (message bytes m.now)) (party_of bytes own.new rows.now) (waiting w.old) (waiting w.new) (capacity w.old) (capacity w.new) result }
+    requires taken { Takes V.valid V.width (W.capacity w.old) (W.waiting w.old) (settled (setting_of V.width V.allows seat) seat.me (party_of V.bytes own.old rows.now) (message V.bytes m.now)).posts }
+    ensures { Does (settled (setting_of V.width V.allows seat) seat.me (party_of V.bytes own.old rows.now) (message V.bytes m.now)) (party_of V.bytes own.new rows.now) (W.waiting w.old) (W.waiting w.new) (W.capacity w.old) (W.capacity w.new) result }
 {
     if settled_already(own) {
         0
@@ -163,9 +163,9 @@ pub fn on_propose<V: Value, W: Wire<V>>(
     w: &mut W,
     propose: &Message<V>,
 ) -> usize
-    requires whole { (length rows.now ≡ seat.n) × (propose.now.kind ≡ 4) × (proposal_of bytes own.old.proposal ≡ nothing) }
-    requires taken { Takes valid width (capacity w.old) (waiting w.old) (on_propose (setting_of width allows seat) seat.me (party_of bytes own.old rows.now) (message bytes propose.now)).posts }
-    ensures { Does (on_propose (setting_of width allows seat) seat.me (party_of bytes own.old rows.now) (message bytes propose.now)) (party_of bytes own.new rows.now) (waiting w.old) (waiting w.new) (capacity w.old) (capacity w.new) result }
+    requires whole { (length rows.now ≡ seat.n) × (propose.now.kind ≡ 4) × (proposal_of V.bytes own.old.proposal ≡ nothing) }
+    requires taken { Takes V.valid V.width (W.capacity w.old) (W.waiting w.old) (on_propose (setting_of V.width V.allows seat) seat.me (party_of V.bytes own.old rows.now) (message V.bytes propose.now)).posts }
+    ensures { Does (on_propose (setting_of V.width V.allows seat) seat.me (party_of V.bytes own.old rows.now) (message V.bytes propose.now)) (party_of V.bytes own.new rows.now) (W.waiting w.old) (W.waiting w.new) (W.capacity w.old) (W.capacity w.new) result }
 {
     settle(seat, own, rows, w, propose)
 }
@@ -179,8 +179,8 @@ pub fn wake_proposal<V: Value, W: Wire<V>>(
     cause: &Message<V>,
 ) -> usize
     requires whole { (length rows.now ≡ seat.n) × ((cause.now.kind == 3 || cause.now.kind == 8) ≡ true) }
-    requires taken { Takes valid width (capacity w.old) (waiting w.old) (wake (setting_of width allows seat) seat.me (party_of bytes own.old rows.now)).posts }
-    ensures { Does (wake (setting_of width allows seat) seat.me (party_of bytes own.old rows.now)) (party_of bytes own.new rows.now) (waiting w.old) (waiting w.new) (capacity w.old) (capacity w.new) result }
+    requires taken { Takes V.valid V.width (W.capacity w.old) (W.waiting w.old) (wake (setting_of V.width V.allows seat) seat.me (party_of V.bytes own.old rows.now)).posts }
+    ensures { Does (wake (setting_of V.width V.allows seat) seat.me (party_of V.bytes own.old rows.now)) (party_of V.bytes own.new rows.now) (W.waiting w.old) (W.waiting w.new) (W.capacity w.old) (W.capacity w.new) result }
 {
     settle(seat, own, rows, w, cause)
 }
@@ -194,8 +194,8 @@ pub fn on_proof<V: Value, W: Wire<V>>(
     m: &Message<V>,
 ) -> usize
     requires whole { (length rows.old ≡ seat.n) × (1 ≤ m.now.from) × (m.now.from ≤ seat.n) × (m.now.kind ≡ 3) }
-    requires taken { Takes valid width (capacity w.old) (waiting w.old) (on_proof (setting_of width allows seat) seat.me (party_of bytes own.old rows.old) (message bytes m.now)).posts }
-    ensures { Does (on_proof (setting_of width allows seat) seat.me (party_of bytes own.old rows.old) (message bytes m.now)) (party_of bytes own.new rows.new) (waiting w.old) (waiting w.new) (capacity w.old) (capacity w.new) result }
+    requires taken { Takes V.valid V.width (W.capacity w.old) (W.waiting w.old) (on_proof (setting_of V.width V.allows seat) seat.me (party_of V.bytes own.old rows.old) (message V.bytes m.now)).posts }
+    ensures { Does (on_proof (setting_of V.width V.allows seat) seat.me (party_of V.bytes own.old rows.old) (message V.bytes m.now)) (party_of V.bytes own.new rows.new) (W.waiting w.old) (W.waiting w.new) (W.capacity w.old) (W.capacity w.new) result }
 {
     let proof = Proof {
         key1: Keyed {

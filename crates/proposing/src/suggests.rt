@@ -26,8 +26,8 @@ fn propose_from<V: Value, W: Wire<V>>(
     suggest: Option<Suggest<V>>,
 ) -> usize
     requires whole { length rows.now ≡ seat.n }
-    requires taken { Takes valid width (capacity w.old) (waiting w.old) (propose (setting_of width allows seat) seat.me (party_of bytes own.old rows.now) (option_map (suggest_of bytes) suggest)).posts }
-    ensures { Does (propose (setting_of width allows seat) seat.me (party_of bytes own.old rows.now) (option_map (suggest_of bytes) suggest)) (party_of bytes own.new rows.now) (waiting w.old) (waiting w.new) (capacity w.old) (capacity w.new) result }
+    requires taken { Takes V.valid V.width (W.capacity w.old) (W.waiting w.old) (propose (setting_of V.width V.allows seat) seat.me (party_of V.bytes own.old rows.now) (option_map (suggest_of V.bytes) suggest)).posts }
+    ensures { Does (propose (setting_of V.width V.allows seat) seat.me (party_of V.bytes own.old rows.now) (option_map (suggest_of V.bytes) suggest)) (party_of V.bytes own.new rows.now) (W.waiting w.old) (W.waiting w.new) (W.capacity w.old) (W.capacity w.new) result }
 {
     match suggest {
         Some(s) => {
@@ -48,8 +48,8 @@ pub fn on_suggest<V: Value, W: Wire<V>>(
     m: &Message<V>,
 ) -> usize
     requires whole { (length rows.old ≡ seat.n) × (1 ≤ m.now.from) × (m.now.from ≤ seat.n) }
-    requires taken { Takes valid width (capacity w.old) (waiting w.old) (on_suggest (setting_of width allows seat) seat.me (party_of bytes own.old rows.old) (message bytes m.now)).posts }
-    ensures { Does (on_suggest (setting_of width allows seat) seat.me (party_of bytes own.old rows.old) (message bytes m.now)) (party_of bytes own.new rows.new) (waiting w.old) (waiting w.new) (capacity w.old) (capacity w.new) result }
+    requires taken { Takes V.valid V.width (W.capacity w.old) (W.waiting w.old) (on_suggest (setting_of V.width V.allows seat) seat.me (party_of V.bytes own.old rows.old) (message V.bytes m.now)).posts }
+    ensures { Does (on_suggest (setting_of V.width V.allows seat) seat.me (party_of V.bytes own.old rows.old) (message V.bytes m.now)) (party_of V.bytes own.new rows.new) (W.waiting w.old) (W.waiting w.new) (W.capacity w.old) (W.capacity w.new) result }
 {
     let suggest = Suggest {
         key3: Keyed {

@@ -20,8 +20,8 @@ use wires::wire::Wire;
 
 // Posts the suggest, where the receiver is the primary of the view.
 fn post_suggest<V: Value, W: Wire<V>>(seat: Seat, own: &Record<V>, w: &mut W, to: u8) -> usize
-    requires { Takes valid width (capacity w.old) (waiting w.old) (suggest_to (setting_of width allows seat) seat.me (record_of bytes own.now) to) }
-    ensures { Posted (waiting w.old) (waiting w.new) (capacity w.old) (capacity w.new) result (suggest_to (setting_of width allows seat) seat.me (record_of bytes own.now) to) }
+    requires { Takes V.valid V.width (W.capacity w.old) (W.waiting w.old) (suggest_to (setting_of V.width V.allows seat) seat.me (record_of V.bytes own.now) to) }
+    ensures { Posted (W.waiting w.old) (W.waiting w.new) (W.capacity w.old) (W.capacity w.new) result (suggest_to (setting_of V.width V.allows seat) seat.me (record_of V.bytes own.now) to) }
 {
     if to == primary_of::<V>(seat, own.view) {
         let m = suggest_letter(seat, own.view, &own.suggest, to);
@@ -33,8 +33,8 @@ fn post_suggest<V: Value, W: Wire<V>>(seat: Seat, own: &Record<V>, w: &mut W, to
 
 // Posts the propose, where one was made.
 fn post_offer<V: Value, W: Wire<V>>(seat: Seat, own: &Record<V>, w: &mut W, to: u8) -> usize
-    requires { Takes valid width (capacity w.old) (waiting w.old) (made_offer (setting_of width allows seat) seat.me own.now.view (record_of bytes own.now).offer to) }
-    ensures { Posted (waiting w.old) (waiting w.new) (capacity w.old) (capacity w.new) result (made_offer (setting_of width allows seat) seat.me own.now.view (record_of bytes own.now).offer to) }
+    requires { Takes V.valid V.width (W.capacity w.old) (W.waiting w.old) (made_offer (setting_of V.width V.allows seat) seat.me own.now.view (record_of V.bytes own.now).offer to) }
+    ensures { Posted (W.waiting w.old) (W.waiting w.new) (W.capacity w.old) (W.capacity w.new) result (made_offer (setting_of V.width V.allows seat) seat.me own.now.view (record_of V.bytes own.now).offer to) }
 {
     match own.offer {
         Some(k) => {
@@ -47,8 +47,8 @@ fn post_offer<V: Value, W: Wire<V>>(seat: Seat, own: &Record<V>, w: &mut W, to: 
 
 // Posts the echo, where one was made.
 fn post_echo<V: Value, W: Wire<V>>(seat: Seat, own: &Record<V>, w: &mut W, to: u8) -> usize
-    requires { Takes valid width (capacity w.old) (waiting w.old) (made_echo (setting_of width allows seat) seat.me own.now.view (record_of bytes own.now).proposal to) }
-    ensures { Posted (waiting w.old) (waiting w.new) (capacity w.old) (capacity w.new) result (made_echo (setting_of width allows seat) seat.me own.now.view (record_of bytes own.now).proposal to) }
+    requires { Takes V.valid V.width (W.capacity w.old) (W.waiting w.old) (made_echo (setting_of V.width V.allows seat) seat.me own.now.view (record_of V.bytes own.now).proposal to) }
+    ensures { Posted (W.waiting w.old) (W.waiting w.new) (W.capacity w.old) (W.capacity w.new) result (made_echo (setting_of V.width V.allows seat) seat.me own.now.view (record_of V.bytes own.now).proposal to) }
 {
     match own.proposal {
         Proposal::Echoed(v) => {
@@ -70,8 +70,8 @@ fn post_vote<V: Value, W: Wire<V>>(
     to: u8,
 ) -> usize
     requires kinds { (6 ≤ kind) × (kind ≤ 9) }
-    requires taken { Takes valid width (capacity w.old) (waiting w.old) (made_vote (setting_of width allows seat) seat.me kind (record_of bytes own.now) to) }
-    ensures { Posted (waiting w.old) (waiting w.new) (capacity w.old) (capacity w.new) result (made_vote (setting_of width allows seat) seat.me kind (record_of bytes own.now) to) }
+    requires taken { Takes V.valid V.width (W.capacity w.old) (W.waiting w.old) (made_vote (setting_of V.width V.allows seat) seat.me kind (record_of V.bytes own.now) to) }
+    ensures { Posted (W.waiting w.old) (W.waiting w.new) (W.capacity w.old) (W.capacity w.new) result (made_vote (setting_of V.width V.allows seat) seat.me kind (record_of V.bytes own.now) to) }
 {
     let k = field(own, kind);
     if k.at == own.view {
@@ -84,8 +84,8 @@ fn post_vote<V: Value, W: Wire<V>>(
 
 // Posts key1, key2, key3 and lock, those that were made in this view.
 fn post_votes<V: Value, W: Wire<V>>(seat: Seat, own: &Record<V>, w: &mut W, to: u8) -> usize
-    requires { Takes valid width (capacity w.old) (waiting w.old) (made_vote (setting_of width allows seat) seat.me 6 (record_of bytes own.now) to ++ (made_vote (setting_of width allows seat) seat.me 7 (record_of bytes own.now) to ++ (made_vote (setting_of width allows seat) seat.me 8 (record_of bytes own.now) to ++ made_vote (setting_of width allows seat) seat.me 9 (record_of bytes own.now) to))) }
-    ensures { Posted (waiting w.old) (waiting w.new) (capacity w.old) (capacity w.new) result (made_vote (setting_of width allows seat) seat.me 6 (record_of bytes own.now) to ++ (made_vote (setting_of width allows seat) seat.me 7 (record_of bytes own.now) to ++ (made_vote (setting_of width allows seat) seat.me 8 (record_of bytes own.now) to ++ made_vote (setting_of width allows seat) seat.me 9 (record_of bytes own.now) to))) }
+    requires { Takes V.valid V.width (W.capacity w.old) (W.waiting w.old) (made_vote (setting_of V.width V.allows seat) seat.me 6 (record_of V.bytes own.now) to ++ (made_vote (setting_of V.width V.allows seat) seat.me 7 (record_of V.bytes own.now) to ++ (made_vote (setting_of V.width V.allows seat) seat.me 8 (record_of V.bytes own.now) to ++ made_vote (setting_of V.width V.allows seat) seat.me 9 (record_of V.bytes own.now) to))) }
+    ensures { Posted (W.waiting w.old) (W.waiting w.new) (W.capacity w.old) (W.capacity w.new) result (made_vote (setting_of V.width V.allows seat) seat.me 6 (record_of V.bytes own.now) to ++ (made_vote (setting_of V.width V.allows seat) seat.me 7 (record_of V.bytes own.now) to ++ (made_vote (setting_of V.width V.allows seat) seat.me 8 (record_of V.bytes own.now) to ++ made_vote (setting_of V.width V.allows seat) seat.me 9 (record_of V.bytes own.now) to))) }
 {
     let key1 = post_vote(seat, own, w, 6, to);
     let key2 = post_vote(seat, own, w, 7, to);
@@ -96,8 +96,8 @@ fn post_votes<V: Value, W: Wire<V>>(seat: Seat, own: &Record<V>, w: &mut W, to: 
 
 // Posts all that was made in the view, by rising kind.
 fn post_made<V: Value, W: Wire<V>>(seat: Seat, own: &Record<V>, w: &mut W, to: u8) -> usize
-    requires { Takes valid width (capacity w.old) (waiting w.old) (made (setting_of width allows seat) seat.me (record_of bytes own.now) to) }
-    ensures { Posted (waiting w.old) (waiting w.new) (capacity w.old) (capacity w.new) result (made (setting_of width allows seat) seat.me (record_of bytes own.now) to) }
+    requires { Takes V.valid V.width (W.capacity w.old) (W.waiting w.old) (made (setting_of V.width V.allows seat) seat.me (record_of V.bytes own.now) to) }
+    ensures { Posted (W.waiting w.old) (W.waiting w.new) (W.capacity w.old) (W.capacity w.new) result (made (setting_of V.width V.allows seat) seat.me (record_of V.bytes own.now) to) }
 {
     let m = proof_letter(seat, own.view, &own.proof, to);
     let proofs = post_one(w, &m);
@@ -116,8 +116,8 @@ pub fn on_request<V: Value, W: Wire<V>>(
     m: &Message<V>,
 ) -> usize
     requires whole { (length rows.old ≡ seat.n) × (1 ≤ m.now.from) × (m.now.from ≤ seat.n) }
-    requires taken { Takes valid width (capacity w.old) (waiting w.old) (on_request (setting_of width allows seat) seat.me (party_of bytes own.now rows.old) (message bytes m.now)).posts }
-    ensures { Does (on_request (setting_of width allows seat) seat.me (party_of bytes own.now rows.old) (message bytes m.now)) (party_of bytes own.now rows.new) (waiting w.old) (waiting w.new) (capacity w.old) (capacity w.new) result }
+    requires taken { Takes V.valid V.width (W.capacity w.old) (W.waiting w.old) (on_request (setting_of V.width V.allows seat) seat.me (party_of V.bytes own.now rows.old) (message V.bytes m.now)).posts }
+    ensures { Does (on_request (setting_of V.width V.allows seat) seat.me (party_of V.bytes own.now rows.old) (message V.bytes m.now)) (party_of V.bytes own.now rows.new) (W.waiting w.old) (W.waiting w.new) (W.capacity w.old) (W.capacity w.new) result }
 {
     note_request(rows, m.from, m.view);
     if m.view == own.view {

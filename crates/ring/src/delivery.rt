@@ -23,7 +23,7 @@ fn deliver<V: Value, W: Wire<V>>(
     place: usize,
     keep: bool,
 ) -> Result<usize, Refusal>
-    ensures gives { Gives (call (kind_of width valid allows) (ring_of bytes ring.now records.old rows.old (waiting wire.old) (capacity wire.old)) (if keep then repeating place else handing place)) (answer_of result) (ring_of bytes ring.now records.new rows.new (waiting wire.new) (capacity wire.new)) }
+    ensures gives { Gives (call (kind_of V.width V.valid V.allows) (ring_of V.bytes ring.now records.old rows.old (W.waiting wire.old) (W.capacity wire.old)) (if keep then repeating place else handing place)) (answer_of result) (ring_of V.bytes ring.now records.new rows.new (W.waiting wire.new) (W.capacity wire.new)) }
     ensures untouched { OnErr result ((records.new ≡ records.old) × (rows.new ≡ rows.old)) }
 {
     if !tables_in_order(ring, records, rows) {
@@ -40,7 +40,7 @@ pub fn hand<V: Value, W: Wire<V>>(
     wire: &mut W,
     place: usize,
 ) -> Result<usize, Refusal>
-    ensures gives { Gives (call (kind_of width valid allows) (ring_of bytes ring.now records.old rows.old (waiting wire.old) (capacity wire.old)) (handing place)) (answer_of result) (ring_of bytes ring.now records.new rows.new (waiting wire.new) (capacity wire.new)) }
+    ensures gives { Gives (call (kind_of V.width V.valid V.allows) (ring_of V.bytes ring.now records.old rows.old (W.waiting wire.old) (W.capacity wire.old)) (handing place)) (answer_of result) (ring_of V.bytes ring.now records.new rows.new (W.waiting wire.new) (W.capacity wire.new)) }
     ensures untouched { OnErr result ((records.new ≡ records.old) × (rows.new ≡ rows.old)) }
 {
     deliver(ring, records, rows, wire, place, false)
@@ -54,7 +54,7 @@ pub fn repeat<V: Value, W: Wire<V>>(
     wire: &mut W,
     place: usize,
 ) -> Result<usize, Refusal>
-    ensures gives { Gives (call (kind_of width valid allows) (ring_of bytes ring.now records.old rows.old (waiting wire.old) (capacity wire.old)) (repeating place)) (answer_of result) (ring_of bytes ring.now records.new rows.new (waiting wire.new) (capacity wire.new)) }
+    ensures gives { Gives (call (kind_of V.width V.valid V.allows) (ring_of V.bytes ring.now records.old rows.old (W.waiting wire.old) (W.capacity wire.old)) (repeating place)) (answer_of result) (ring_of V.bytes ring.now records.new rows.new (W.waiting wire.new) (W.capacity wire.new)) }
     ensures untouched { OnErr result ((records.new ≡ records.old) × (rows.new ≡ rows.old)) }
 {
     deliver(ring, records, rows, wire, place, true)

@@ -1,3 +1,5 @@
+#![tactic(auto)]
+
 pub mod delivery;
 pub mod lookup;
 pub mod losing;

@@ -22,7 +22,7 @@ use values::value::Value;
 
 // What is shown of an honest party.
 fn shown_record<V: Value>(own: &Record<V>) -> Shown<V>
-    ensures { shown_of bytes result ≡ shown_party (kind_of width valid allows) (record { rec = record_of bytes own.now; rows = λ _. empty_row }) (record_of bytes own.now).decision }
+    ensures { shown_of V.bytes result ≡ shown_party (kind_of V.width V.valid V.allows) (record { rec = record_of V.bytes own.now; rows = λ _. empty_row }) (record_of V.bytes own.now).decision }
 {
     match own.decision {
         Some(value) => Shown {
@@ -47,7 +47,7 @@ pub fn show<V: Value>(
     rows: &[Row<V>],
     party: u64,
 ) -> Result<Shown<V>, Refusal>
-    ensures { (wire : List Msg) (capacity : ℕ) → Gives (call (kind_of width valid allows) (ring_of bytes ring.now records.now rows.now wire capacity) (showing party)) (shown_answer bytes result) (ring_of bytes ring.now records.now rows.now wire capacity) }
+    ensures { (wire : List Msg) (capacity : ℕ) → Gives (call (kind_of V.width V.valid V.allows) (ring_of V.bytes ring.now records.now rows.now wire capacity) (showing party)) (shown_answer V.bytes result) (ring_of V.bytes ring.now records.now rows.now wire capacity) }
 {
     if !tables_in_order(ring, records, rows) {
         return Err(Refusal::Tables);

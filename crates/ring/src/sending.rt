@@ -24,7 +24,7 @@ pub fn send<V: Value, W: Wire<V>>(
     wire: &mut W,
     m: &Message<V>,
 ) -> Result<usize, Refusal>
-    ensures { Gives (call (kind_of width valid allows) (ring_of bytes ring.now records.now rows.now (waiting wire.old) (capacity wire.old)) (sending (message bytes m.now))) (answer_of result) (ring_of bytes ring.now records.now rows.now (waiting wire.new) (capacity wire.new)) }
+    ensures { Gives (call (kind_of V.width V.valid V.allows) (ring_of V.bytes ring.now records.now rows.now (W.waiting wire.old) (W.capacity wire.old)) (sending (message V.bytes m.now))) (answer_of result) (ring_of V.bytes ring.now records.now rows.now (W.waiting wire.new) (W.capacity wire.new)) }
 {
     if !tables_in_order(ring, records, rows) {
         return Err(Refusal::Tables);

@@ -22,7 +22,7 @@ pub fn timer<V: Value, W: Wire<V>>(
     wire: &mut W,
     party: u64,
 ) -> Result<usize, Refusal>
-    ensures gives { Gives (call (kind_of width valid allows) (ring_of bytes ring.now records.old rows.old (waiting wire.old) (capacity wire.old)) (timing party)) (answer_of result) (ring_of bytes ring.now records.new rows.new (waiting wire.new) (capacity wire.new)) }
+    ensures gives { Gives (call (kind_of V.width V.valid V.allows) (ring_of V.bytes ring.now records.old rows.old (W.waiting wire.old) (W.capacity wire.old)) (timing party)) (answer_of result) (ring_of V.bytes ring.now records.new rows.new (W.waiting wire.new) (W.capacity wire.new)) }
     ensures untouched { OnErr result ((records.new ≡ records.old) × (rows.new ≡ rows.old)) }
 {
     if !tables_in_order(ring, records, rows) {

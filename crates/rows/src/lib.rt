@@ -1,4 +1,6 @@
 // What a party keeps: its record, a row for each sender, and where it stands.
+#![tactic(auto)]
+
 pub mod keys;
 pub mod record;
 pub mod row;

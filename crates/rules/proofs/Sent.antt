@@ -1,7 +1,7 @@
 -- Laws of the lists of posts: how long they are, and what holds of every message in them.
 use Rattle.std.proofs.Common.{◌≡◌, ℕ, zero, suc, ◌+◌, ◌*◌, ◌<◌, ◌≤◌, Bool, true, false, cond, eqb, List, [], ◌∷◌, ◌++◌, length, Some, None, Option, sym, refl, ◌∙◌, arith}
 use Rattle.std.specs.List.{ContainsAt as Has, AllByRecursion as All}
-use Rattle.std.proofs.ByRecursion.{All-append, all_has}
+use Rattle.std.proofs.ByRecursion.{All-append, all-has}
 use Rattle.std.proofs.lemmas.List.{length-append}
 use Rattle.std.proofs.lemmas.Bool.{eqb-true}
 use Rattle.std.proofs.lemmas.Bool.Decides.{nat_tests}
@@ -51,7 +51,7 @@ module _ (P : Msg → Type 0) where
 pub in_each : (who : ℕ → Bool) (what : ℕ → Msg) (k : ℕ) (m : Msg) → Has (to_each who what k) m →
     (j : ℕ) × (1 ≤ j) × (j ≤ k) × (who j ≡ true) × (what j ≡ m)
 in_each who what k m h =
-    all_has (λ m. (j : ℕ) × (1 ≤ j) × (j ≤ k) × (who j ≡ true) × (what j ≡ m)) (to_each who what k) m
+    all-has (λ m. (j : ℕ) × (1 ≤ j) × (j ≤ k) × (who j ≡ true) × (what j ≡ m)) (to_each who what k) m
     (all_each _ who what k (λ j i l e. (j, i, l, e, refl))) h
 
 module _ (g : Setting) (me : ℕ) where

@@ -1,3 +1,5 @@
+#![tactic(auto)]
+
 pub mod facts;
 pub mod figures;
 pub mod thresholds;

@@ -22,8 +22,8 @@ pub fn enter_all<V: Value, W: Wire<V>>(
     wire: &mut W,
 )
     requires places { (ring.now.n ≤ length own.now) × (ring.now.n ≤ length records.old) × (ring.now.n * ring.now.n ≤ length rows.old) }
-    requires room { length (waiting wire.old) + ring.now.n * ring.now.n ≤ capacity wire.old }
-    ensures { ring_of bytes ring.now records.new rows.new (waiting wire.new) (capacity wire.new) ≡ (set_up_done (kind_of width valid allows) (plan_of bytes ring.now.n ring.now.f ring.now.faulty own.now) (ring_of bytes ring.now records.old rows.old (waiting wire.old) (capacity wire.old))).after }
+    requires room { length (W.waiting wire.old) + ring.now.n * ring.now.n ≤ W.capacity wire.old }
+    ensures { ring_of V.bytes ring.now records.new rows.new (W.waiting wire.new) (W.capacity wire.new) ≡ (set_up_done (kind_of V.width V.valid V.allows) (plan_of V.bytes ring.now.n ring.now.f ring.now.faulty own.now) (ring_of V.bytes ring.now records.old rows.old (W.waiting wire.old) (W.capacity wire.old))).after }
 {
     for i in 0..ring.n {
         if !is_named(ring.faulty, i + 1) {

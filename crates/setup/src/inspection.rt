@@ -72,9 +72,9 @@ pub fn inspect<V: Value, W: Wire<V>>(
     ensures named { result.named ≡ nat_lt planned.now.faulty (2 ^ planned.now.n) }
     ensures few { result.few ≡ nat_le (count (is-named planned.now.faulty) planned.now.n) planned.now.f }
     ensures places { result.places ≡ (nat_le planned.now.n (length own.now) && (nat_le planned.now.n (length records.now) && nat_le (planned.now.n * planned.now.n) (length rows.now))) }
-    ensures owns { planned.now.n ≤ length own.now → result.owns ≡ every (λ i. is-named planned.now.faulty i || allows (own_of (map bytes own.now) i)) planned.now.n }
-    ensures vacant { result.vacant ≡ (length (waiting wire.now) == 0) }
-    ensures roomy { result.roomy ≡ nat_le (planned.now.n * planned.now.n) (room_left (capacity wire.now) (waiting wire.now)) }
+    ensures owns { planned.now.n ≤ length own.now → result.owns ≡ every (λ i. is-named planned.now.faulty i || V.allows (own_of (map V.bytes own.now) i)) planned.now.n }
+    ensures vacant { result.vacant ≡ (length (W.waiting wire.now) == 0) }
+    ensures roomy { result.roomy ≡ nat_le (planned.now.n * planned.now.n) (room_left (W.capacity wire.now) (W.waiting wire.now)) }
 {
     Inspection {
         named: none_above(planned.faulty, planned.n),

@@ -24,7 +24,7 @@ pub fn sizes_in_order(n: u64, f: u64) -> bool
 // Whether the party's own value is allowed; nothing is asked of a faulty one.
 fn own_in_order<V: Value>(ring: &Ring, own: &[V], party: u8) -> bool
     requires { (1 ≤ party) × (party ≤ ring.now.n) × (ring.now.n ≤ length own.now) }
-    ensures { result ≡ (named ring.now.faulty party || allows (own_of (map bytes own.now) party)) }
+    ensures { result ≡ (named ring.now.faulty party || V.allows (own_of (map V.bytes own.now) party)) }
 {
     if is_named(ring.faulty, party) {
         return true;
@@ -34,7 +34,7 @@ fn own_in_order<V: Value>(ring: &Ring, own: &[V], party: u8) -> bool
 
 // Whether every honest party's own value is allowed, where there are enough of them.
 pub fn owns_in_order<V: Value>(ring: &Ring, own: &[V]) -> bool
-    ensures { ring.now.n ≤ length own.now → result ≡ every (λ i. named ring.now.faulty i || allows (own_of (map bytes own.now) i)) ring.now.n }
+    ensures { ring.now.n ≤ length own.now → result ≡ every (λ i. named ring.now.faulty i || V.allows (own_of (map V.bytes own.now) i)) ring.now.n }
 {
     if own.len() < ring.n as usize {
         return false;

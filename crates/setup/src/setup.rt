@@ -26,8 +26,8 @@ pub fn set_up<V: Value, W: Wire<V>>(
     rows: &mut [Row<V>],
     wire: &mut W,
 ) -> Result<usize, Refusal>
-    ensures gives { Gives (set_up (kind_of width valid allows) (plan_of bytes n f faulty own.now) (ring_at bytes n ring.old records.old rows.old (waiting wire.old) (capacity wire.old))) (answer_of result) (ring_at bytes n ring.new records.new rows.new (waiting wire.new) (capacity wire.new)) }
-    ensures leaves { MatchResult result (λ answer. (answer ≡ 0) × (ring.new.n ≡ n)) (λ _. (ring.new ≡ ring.old) × (records.new ≡ records.old) × (rows.new ≡ rows.old) × (waiting wire.new ≡ waiting wire.old) × (capacity wire.new ≡ capacity wire.old)) }
+    ensures gives { Gives (set_up (kind_of V.width V.valid V.allows) (plan_of V.bytes n f faulty own.now) (ring_at V.bytes n ring.old records.old rows.old (W.waiting wire.old) (W.capacity wire.old))) (answer_of result) (ring_at V.bytes n ring.new records.new rows.new (W.waiting wire.new) (W.capacity wire.new)) }
+    ensures leaves { MatchResult result (λ answer. (answer ≡ 0) × (ring.new.n ≡ n)) (λ _. (ring.new ≡ ring.old) × (records.new ≡ records.old) × (rows.new ≡ rows.old) × (W.waiting wire.new ≡ W.waiting wire.old) × (W.capacity wire.new ≡ W.capacity wire.old)) }
 {
     if !sizes_in_order(n, f) {
         return Err(Refusal::Sizes);

@@ -1,4 +1,6 @@
 // A reader of run sheets: it reads a whole sheet and runs nothing.
+#![tactic(auto)]
+
 mod calls;
 pub mod fault;
 mod opening;

@@ -1,4 +1,6 @@
 // The parts of a run sheet's line: cuts at a byte, numbers, the set of faulty parties.
+#![tactic(auto)]
+
 pub mod block_text;
 pub mod cuts;
 pub mod fault;

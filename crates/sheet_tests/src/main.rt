@@ -1,4 +1,6 @@
 // Reads each sheet that its arguments name, and prints what was understood of it.
+#![tactic(auto)]
+
 use sheet_print::report::report;
 use std::{env, fs};
 

@@ -31,8 +31,8 @@ pub fn obey<V: Value, W: Wire<V>>(
     wire: &mut W,
     call: &Call<V>,
 ) -> bool
-    ensures answer { result ≡ not (is_refused (obeyed (kind_of width valid allows) (ring_of bytes ring.now records.old rows.old (waiting wire.old) (capacity wire.old)) (call_of bytes call.now)).answer) }
-    ensures after { ring_of bytes ring.now records.new rows.new (waiting wire.new) (capacity wire.new) ≡ (obeyed (kind_of width valid allows) (ring_of bytes ring.now records.old rows.old (waiting wire.old) (capacity wire.old)) (call_of bytes call.now)).after }
+    ensures answer { result ≡ not (is_refused (obeyed (kind_of V.width V.valid V.allows) (ring_of V.bytes ring.now records.old rows.old (W.waiting wire.old) (W.capacity wire.old)) (call_of V.bytes call.now)).answer) }
+    ensures after { ring_of V.bytes ring.now records.new rows.new (W.waiting wire.new) (W.capacity wire.new) ≡ (obeyed (kind_of V.width V.valid V.allows) (ring_of V.bytes ring.now records.old rows.old (W.waiting wire.old) (W.capacity wire.old)) (call_of V.bytes call.now)).after }
 {
     match call {
         Call::Hand(place) => hand(ring, records, rows, wire, *place).is_ok(),
@@ -52,10 +52,10 @@ fn obey_fitting<V: Value, W: Wire<V>>(
     wire: &mut W,
     call: &Call<V>,
 ) -> bool
-    requires { true ≡ tables_fit (ring_of bytes ring.now records.old rows.old [] 0) }
-    ensures answer { result ≡ not (is_refused (obeyed (kind_of width valid allows) (ring_of bytes ring.now records.old rows.old (waiting wire.old) (capacity wire.old)) (call_of bytes call.now)).answer) }
-    ensures after { ring_of bytes ring.now records.new rows.new (waiting wire.new) (capacity wire.new) ≡ (obeyed (kind_of width valid allows) (ring_of bytes ring.now records.old rows.old (waiting wire.old) (capacity wire.old)) (call_of bytes call.now)).after }
-    ensures fit { true ≡ tables_fit (ring_of bytes ring.now records.new rows.new [] 0) }
+    requires { true ≡ tables_fit (ring_of V.bytes ring.now records.old rows.old [] 0) }
+    ensures answer { result ≡ not (is_refused (obeyed (kind_of V.width V.valid V.allows) (ring_of V.bytes ring.now records.old rows.old (W.waiting wire.old) (W.capacity wire.old)) (call_of V.bytes call.now)).answer) }
+    ensures after { ring_of V.bytes ring.now records.new rows.new (W.waiting wire.new) (W.capacity wire.new) ≡ (obeyed (kind_of V.width V.valid V.allows) (ring_of V.bytes ring.now records.old rows.old (W.waiting wire.old) (W.capacity wire.old)) (call_of V.bytes call.now)).after }
+    ensures fit { true ≡ tables_fit (ring_of V.bytes ring.now records.new rows.new [] 0) }
 {
     match call {
         Call::Hand(place) => bring(ring, records, rows, wire, *place, false).is_ok(),
@@ -76,8 +76,8 @@ pub fn obey_all<V: Value, W: Wire<V>>(
     wire: &mut W,
     calls: &[Call<V>],
 ) -> usize
-    ensures answer { result ≡ refusals (kind_of width valid allows) (ring_of bytes ring.now records.old rows.old (waiting wire.old) (capacity wire.old)) (map (call_of bytes) calls.now) }
-    ensures after { ring_of bytes ring.now records.new rows.new (waiting wire.new) (capacity wire.new) ≡ end_of (kind_of width valid allows) (ring_of bytes ring.now records.old rows.old (waiting wire.old) (capacity wire.old)) (map (call_of bytes) calls.now) }
+    ensures answer { result ≡ refusals (kind_of V.width V.valid V.allows) (ring_of V.bytes ring.now records.old rows.old (W.waiting wire.old) (W.capacity wire.old)) (map (call_of V.bytes) calls.now) }
+    ensures after { ring_of V.bytes ring.now records.new rows.new (W.waiting wire.new) (W.capacity wire.new) ≡ end_of (kind_of V.width V.valid V.allows) (ring_of V.bytes ring.now records.old rows.old (W.waiting wire.old) (W.capacity wire.old)) (map (call_of V.bytes) calls.now) }
 {
     if !tables_in_order(ring, records, rows) {
         return calls.len();

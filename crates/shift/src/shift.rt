@@ -33,8 +33,8 @@ pub fn run_shift<V: Value, W: Wire<V>>(
     calls: &[Call<V>],
 ) -> Result<usize, Refusal>
     ensures { MatchResult result
-        (λ number. Ran (kind_of width valid allows) (plan_of bytes n f faulty own.now) (ring_at bytes n ring.old records.old rows.old (waiting wire.old) (capacity wire.old)) (map (call_of bytes) calls.now) number (ring_of bytes ring.new records.new rows.new (waiting wire.new) (capacity wire.new)))
-        (λ e. ((set_up (kind_of width valid allows) (plan_of bytes n f faulty own.now) (ring_at bytes n ring.old records.old rows.old (waiting wire.old) (capacity wire.old))).answer ≡ refused (refusal_number e)) × (ring.new ≡ ring.old) × (records.new ≡ records.old) × (rows.new ≡ rows.old) × (waiting wire.new ≡ waiting wire.old) × (capacity wire.new ≡ capacity wire.old)) }
+        (λ number. Ran (kind_of V.width V.valid V.allows) (plan_of V.bytes n f faulty own.now) (ring_at V.bytes n ring.old records.old rows.old (W.waiting wire.old) (W.capacity wire.old)) (map (call_of V.bytes) calls.now) number (ring_of V.bytes ring.new records.new rows.new (W.waiting wire.new) (W.capacity wire.new)))
+        (λ e. ((set_up (kind_of V.width V.valid V.allows) (plan_of V.bytes n f faulty own.now) (ring_at V.bytes n ring.old records.old rows.old (W.waiting wire.old) (W.capacity wire.old))).answer ≡ refused (refusal_number e)) × (ring.new ≡ ring.old) × (records.new ≡ records.old) × (rows.new ≡ rows.old) × (W.waiting wire.new ≡ W.waiting wire.old) × (W.capacity wire.new ≡ W.capacity wire.old)) }
 {
     match set_up(ring, n, f, faulty, own, records, rows, wire) {
         Ok(_) => Ok(obey_all(ring, records, rows, wire, calls)),

@@ -2,6 +2,8 @@
 //   stamp_ring SHEET          the end of the run
 //   stamp_ring                the same, the sheet on standard input
 //   stamp_ring --steps SHEET  each step of the run, for a person, and then the end
+#![tactic(auto)]
+
 mod end;
 mod shape;
 mod steps;

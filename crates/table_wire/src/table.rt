@@ -24,7 +24,7 @@ pub struct TableWire<'a, V> {
 impl<'a, V: Value> TableWire<'a, V> {
     // An empty wire whose capacity is the length of the table.
     pub fn new(table: &'a mut [Message<V>]) -> TableWire<'a, V>
-        ensures empty { entries valid width bytes result.count result.table.now ≡ [] }
+        ensures empty { entries V.valid V.width V.bytes result.count result.table.now ≡ [] }
         ensures size { length result.table.now ≡ length table.old }
     {
         TableWire { table, count: 0 }
@@ -34,7 +34,7 @@ impl<'a, V: Value> TableWire<'a, V> {
 // What one entry of a table means.
 fn entry_at<V: Value>(table: &[Message<V>], i: usize) -> Message<V>
     requires { i < length table.now }
-    ensures { message bytes result ≡ slice_index_or (map (entry valid width bytes) table.now) i (fixed_request width) }
+    ensures { message V.bytes result ≡ slice_index_or (map (entry V.valid V.width V.bytes) table.now) i (fixed_request V.width) }
 {
     let m = table[i];
     if in_range(&m) { m } else { fixed_request() }
@@ -51,7 +51,7 @@ fn put_entry<V: Value>(table: &mut [Message<V>], i: usize, m: &Message<V>)
 // Answers one of the first `count` entries, and moves the later ones of these up over it.
 fn take_entry<V: Value>(table: &mut [Message<V>], i: usize, count: usize) -> Message<V>
     requires { (i < count) × (count ≤ length table.old) }
-    ensures value { message bytes result ≡ slice_index_or (map (entry valid width bytes) table.old) i (fixed_request width) }
+    ensures value { message V.bytes result ≡ slice_index_or (map (entry V.valid V.width V.bytes) table.old) i (fixed_request V.width) }
     ensures after { table.new ≡ paste table.old i (drop (i + 1) table.old) (count - (i + 1)) }
 {
     let m = entry_at(table, i);

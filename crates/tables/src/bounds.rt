@@ -35,19 +35,19 @@ fn is_below(previous: Option<u32>, key: u32) -> bool
 }
 
 fn suggest_in_range<V: Value>(s: &Suggest<V>) -> bool
-    ensures { result ≡ suggest_fits (suggest_of bytes s.now) }
+    ensures { result ≡ suggest_fits (suggest_of V.bytes s.now) }
 {
     s.key3.at <= LAST_VIEW && s.key2.at <= LAST_VIEW && previous_in_range(s.previous)
 }
 
 fn proof_in_range<V: Value>(p: &Proof<V>) -> bool
-    ensures { result ≡ proof_fits (proof_of bytes p.now) }
+    ensures { result ≡ proof_fits (proof_of V.bytes p.now) }
 {
     p.key1.at <= LAST_VIEW && previous_in_range(p.previous)
 }
 
 fn stored_suggest_in_range<V: Value>(s: &Option<Suggest<V>>) -> bool
-    ensures { result ≡ stored_suggest_fits (option_map (suggest_of bytes) s.now) }
+    ensures { result ≡ stored_suggest_fits (option_map (suggest_of V.bytes) s.now) }
 {
     match s {
         Some(s) => suggest_in_range(s),
@@ -56,7 +56,7 @@ fn stored_suggest_in_range<V: Value>(s: &Option<Suggest<V>>) -> bool
 }
 
 fn stored_proof_in_range<V: Value>(p: &Option<Proof<V>>) -> bool
-    ensures { result ≡ stored_proof_fits (option_map (proof_of bytes) p.now) }
+    ensures { result ≡ stored_proof_fits (option_map (proof_of V.bytes) p.now) }
 {
     match p {
         Some(p) => proof_in_range(p),
@@ -65,7 +65,7 @@ fn stored_proof_in_range<V: Value>(p: &Option<Proof<V>>) -> bool
 }
 
 fn offer_in_range<V: Value>(offer: &Option<Keyed<V>>) -> bool
-    ensures { result ≡ offer_fits (option_map (keyed_of bytes) offer.now) }
+    ensures { result ≡ offer_fits (option_map (keyed_of V.bytes) offer.now) }
 {
     match offer {
         Some(k) => k.at <= LAST_VIEW,
@@ -74,20 +74,20 @@ fn offer_in_range<V: Value>(offer: &Option<Keyed<V>>) -> bool
 }
 
 fn fields_in_bounds<V: Value>(r: &Record<V>) -> bool
-    ensures { result ≡ fields_fit (record_of bytes r.now) }
+    ensures { result ≡ fields_fit (record_of V.bytes r.now) }
 {
     r.key1.at <= r.view && r.key2.at <= r.view && r.key3.at <= r.view && r.lock.at <= r.view
 }
 
 fn previous_in_bounds<V: Value>(r: &Record<V>) -> bool
-    ensures { result ≡ previous_below (record_of bytes r.now) }
+    ensures { result ≡ previous_below (record_of V.bytes r.now) }
 {
     is_below(r.previous_key1, r.key1.at) && is_below(r.previous_key2, r.key2.at)
 }
 
 // Whether every number of a record lies within its bounds.
 pub fn record_in_bounds<V: Value>(r: &Record<V>) -> bool
-    ensures { result ≡ record_fits (record_of bytes r.now) }
+    ensures { result ≡ record_fits (record_of V.bytes r.now) }
 {
     r.view >= 1
         && r.view <= LAST_VIEW
@@ -100,7 +100,7 @@ pub fn record_in_bounds<V: Value>(r: &Record<V>) -> bool
 
 // Whether every number of a row lies within its bounds.
 pub fn row_in_bounds<V: Value>(row: &Row<V>) -> bool
-    ensures { result ≡ row_fits (row_of bytes row.now) }
+    ensures { result ≡ row_fits (row_of V.bytes row.now) }
 {
     row.request <= LAST_VIEW
         && row.abort <= LAST_VIEW - 1

@@ -24,7 +24,7 @@ pub fn base_of(n: u8, index: u8) -> usize
 
 // Whether every row lies within its bounds.
 pub fn rows_in_bounds<V: Value>(rows: &[Row<V>]) -> bool
-    ensures { result ≡ every (λ j. row_fits (rows_of bytes rows.now j)) (length rows.now) }
+    ensures { result ≡ every (λ j. row_fits (rows_of V.bytes rows.now j)) (length rows.now) }
 {
     for row in rows {
         if !row_in_bounds(row) {
@@ -36,7 +36,7 @@ pub fn rows_in_bounds<V: Value>(rows: &[Row<V>]) -> bool
 
 // Whether all that a party keeps lies within its bounds.
 pub fn party_in_bounds<V: Value>(mine: &Record<V>, rows: &[Row<V>]) -> bool
-    ensures { result ≡ party_fits (length rows.now) (party_of bytes mine.now rows.now) }
+    ensures { result ≡ party_fits (length rows.now) (party_of V.bytes mine.now rows.now) }
 {
     record_in_bounds(mine) && rows_in_bounds(rows)
 }
@@ -45,7 +45,7 @@ pub fn party_in_bounds<V: Value>(mine: &Record<V>, rows: &[Row<V>]) -> bool
 fn party_in_order<V: Value>(ring: &Ring, records: &[Record<V>], rows: &[Row<V>], party: u8) -> bool
     requires places { (ring.now.n ≤ length records.now) × (ring.now.n * ring.now.n ≤ length rows.now) }
     requires seated { (1 ≤ party) × (party ≤ ring.now.n) }
-    ensures { result ≡ (named ring.now.faulty party || party_fits ring.now.n (parties_of bytes ring.now.n records.now rows.now party)) }
+    ensures { result ≡ (named ring.now.faulty party || party_fits ring.now.n (parties_of V.bytes ring.now.n records.now rows.now party)) }
 {
     if is_named(ring.faulty, party) {
         return true;
@@ -60,7 +60,7 @@ fn party_in_order<V: Value>(ring: &Ring, records: &[Record<V>], rows: &[Row<V>],
 // Whether every honest party lies within its bounds.
 fn parties_in_order<V: Value>(ring: &Ring, records: &[Record<V>], rows: &[Row<V>]) -> bool
     requires { (ring.now.n ≤ length records.now) × (ring.now.n * ring.now.n ≤ length rows.now) }
-    ensures { result ≡ every (λ i. named ring.now.faulty i || party_fits ring.now.n (parties_of bytes ring.now.n records.now rows.now i)) ring.now.n }
+    ensures { result ≡ every (λ i. named ring.now.faulty i || party_fits ring.now.n (parties_of V.bytes ring.now.n records.now rows.now i)) ring.now.n }
 {
     for i in 0..ring.n {
         if !party_in_order(ring, records, rows, i + 1) {
@@ -79,7 +79,7 @@ pub fn rows_of_all(n: u8) -> usize
 
 // Whether the tables have places for all parties, and every honest party lies within its bounds.
 pub fn tables_in_order<V: Value>(ring: &Ring, records: &[Record<V>], rows: &[Row<V>]) -> bool
-    ensures { result ≡ tables_fit (ring_of bytes ring.now records.now rows.now [] 0) }
+    ensures { result ≡ tables_fit (ring_of V.bytes ring.now records.now rows.now [] 0) }
 {
     if records.len() < ring.n as usize {
         return false;

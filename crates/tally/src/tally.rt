@@ -12,12 +12,12 @@ pub trait Claim<V: Value> {
     ghost backed: { Self → Sender → Bool };
 
     fn backs(&self, row: &Row<V>) -> bool
-        ensures { result ≡ backed self.now (row_of bytes row.now) };
+        ensures { result ≡ backed self.now (row_of V.bytes row.now) };
 }
 
 // How many rows back the claim.
 pub fn tally<V: Value, C: Claim<V>>(rows: &[Row<V>], claim: &C) -> usize
-    ensures { result ≡ count (λ j. backed claim.now (rows_of bytes rows.now j)) (length rows.now) }
+    ensures { result ≡ count (λ j. C.backed claim.now (rows_of V.bytes rows.now j)) (length rows.now) }
 {
     let mut found = 0;
     for row in rows {

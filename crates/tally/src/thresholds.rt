@@ -11,7 +11,7 @@ use values::value::Value;
 
 // The party that leads a view.
 pub fn primary_of<V: Value>(seat: Seat, view: u32) -> u8
-    ensures { result ≡ leader (setting_of width allows seat) view }
+    ensures { result ≡ leader (setting_of V.width V.allows seat) view }
 {
     primary(seat.n, view)
 }
@@ -19,7 +19,7 @@ pub fn primary_of<V: Value>(seat: Seat, view: u32) -> u8
 // Whether a quorum of senders backs the claim.
 pub fn has_quorum<V: Value, C: Claim<V>>(seat: Seat, rows: &[Row<V>], claim: &C) -> bool
     requires { length rows.now ≡ seat.n }
-    ensures { result ≡ quorum (setting_of width allows seat) (λ j. backed claim.now (rows_of bytes rows.now j)) }
+    ensures { result ≡ quorum (setting_of V.width V.allows seat) (λ j. C.backed claim.now (rows_of V.bytes rows.now j)) }
 {
     tally(rows, claim) >= quorum_size(seat.n, seat.f)
 }
@@ -27,7 +27,7 @@ pub fn has_quorum<V: Value, C: Claim<V>>(seat: Seat, rows: &[Row<V>], claim: &C)
 // Whether a voucher of senders backs the claim.
 pub fn has_voucher<V: Value, C: Claim<V>>(seat: Seat, rows: &[Row<V>], claim: &C) -> bool
     requires { length rows.now ≡ seat.n }
-    ensures { result ≡ voucher (setting_of width allows seat) (λ j. backed claim.now (rows_of bytes rows.now j)) }
+    ensures { result ≡ voucher (setting_of V.width V.allows seat) (λ j. C.backed claim.now (rows_of V.bytes rows.now j)) }
 {
     tally(rows, claim) >= voucher_size(seat.f)
 }

@@ -25,7 +25,7 @@ const LAST_VIEW: u32 = 2_000_000_000;
 
 // Whether nothing is decided yet.
 fn is_open<V: Value>(own: &Record<V>) -> bool
-    ensures { result ≡ none (record_of bytes own.now).decision }
+    ensures { result ≡ none (record_of V.bytes own.now).decision }
 {
     match own.decision {
         Some(_) => false,
@@ -35,7 +35,7 @@ fn is_open<V: Value>(own: &Record<V>) -> bool
 
 // Whether a view follows.
 fn is_early<V: Value>(own: &Record<V>) -> bool
-    ensures { result ≡ nat_lt (record_of bytes own.now).view last_view }
+    ensures { result ≡ nat_lt (record_of V.bytes own.now).view last_view }
 {
     own.view < LAST_VIEW
 }
@@ -71,10 +71,10 @@ fn honest_timer<V: Value, W: Wire<V>>(
     wire: &mut W,
     party: u8,
 ) -> Result<usize, Refusal>
-    requires fit { true ≡ tables_fit (ring_of bytes ring.now records.old rows.old [] 0) }
+    requires fit { true ≡ tables_fit (ring_of V.bytes ring.now records.old rows.old [] 0) }
     requires honest { (1 ≤ party) × (party ≤ ring.now.n) × (false ≡ named ring.now.faulty party) }
-    ensures gives { Gives (timed (kind_of width valid allows) (ring_of bytes ring.now records.old rows.old (waiting wire.old) (capacity wire.old)) party) (answer_of result) (ring_of bytes ring.now records.new rows.new (waiting wire.new) (capacity wire.new)) }
-    ensures fit { true ≡ tables_fit (ring_of bytes ring.now records.new rows.new [] 0) }
+    ensures gives { Gives (timed (kind_of V.width V.valid V.allows) (ring_of V.bytes ring.now records.old rows.old (W.waiting wire.old) (W.capacity wire.old)) party) (answer_of result) (ring_of V.bytes ring.now records.new rows.new (W.waiting wire.new) (W.capacity wire.new)) }
+    ensures fit { true ≡ tables_fit (ring_of V.bytes ring.now records.new rows.new [] 0) }
     ensures untouched { OnErr result ((records.new ≡ records.old) × (rows.new ≡ rows.old)) }
 {
     let own = records[party as usize - 1];
@@ -93,9 +93,9 @@ pub fn run_out<V: Value, W: Wire<V>>(
     wire: &mut W,
     party: u64,
 ) -> Result<usize, Refusal>
-    requires { true ≡ tables_fit (ring_of bytes ring.now records.old rows.old [] 0) }
-    ensures gives { Gives (obey (kind_of width valid allows) (ring_of bytes ring.now records.old rows.old (waiting wire.old) (capacity wire.old)) (timing party)) (answer_of result) (ring_of bytes ring.now records.new rows.new (waiting wire.new) (capacity wire.new)) }
-    ensures fit { true ≡ tables_fit (ring_of bytes ring.now records.new rows.new [] 0) }
+    requires { true ≡ tables_fit (ring_of V.bytes ring.now records.old rows.old [] 0) }
+    ensures gives { Gives (obey (kind_of V.width V.valid V.allows) (ring_of V.bytes ring.now records.old rows.old (W.waiting wire.old) (W.capacity wire.old)) (timing party)) (answer_of result) (ring_of V.bytes ring.now records.new rows.new (W.waiting wire.new) (W.capacity wire.new)) }
+    ensures fit { true ≡ tables_fit (ring_of V.bytes ring.now records.new rows.new [] 0) }
     ensures untouched { OnErr result ((records.new ≡ records.old) × (rows.new ≡ rows.old)) }
 {
     let refusal = standing_refusal(has_party(ring, party), !is_liar(ring, party));

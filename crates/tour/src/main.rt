@@ -1,6 +1,8 @@
 // A walk through the engine, every step printed: messages of both kinds become frames, come back,
 // travel over both wires, and each refusal of the frames part is met once; one party alone goes
 // from its first request to its decision; and two run sheets are read.
+#![tactic(auto)]
+
 mod alone;
 mod frames_walk;
 mod refusals;

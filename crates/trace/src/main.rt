@@ -1,6 +1,8 @@
 // Prints the trace of a shift with liars that speak: every answer, every post, and the end.
 //   trace SHIFT..   the traces of these files, one after the other
 //   trace           the trace of the shift on standard input
+#![tactic(auto)]
+
 mod call;
 mod end;
 mod fault;

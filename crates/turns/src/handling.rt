@@ -26,13 +26,13 @@ pub fn receive<V: Value, W: Wire<V>>(
     wire: &mut W,
     m: &Message<V>,
 ) -> usize
-    requires fit { true ≡ tables_fit (ring_of bytes ring.now records.old rows.old [] 0) }
+    requires fit { true ≡ tables_fit (ring_of V.bytes ring.now records.old rows.old [] 0) }
     requires places { (ring.now.n ≤ length records.old) × (ring.now.n * ring.now.n ≤ length rows.old) }
     requires honest { (1 ≤ m.now.to) × (m.now.to ≤ ring.now.n) × (false ≡ named ring.now.faulty m.now.to) }
-    requires sent { (1 ≤ m.now.from) × (m.now.from ≤ ring.now.n) × (in_range valid width (message bytes m.now) ≡ true) }
-    requires room { length (waiting wire.old) + (3 * ring.now.n + 8) ≤ capacity wire.old }
-    ensures gives { Gives (stepped (ring_of bytes ring.now records.old rows.old (waiting wire.old) (capacity wire.old)) m.now.to (waiting wire.old) (stepping (setting_in width allows ring.now) m.now.to (parties_of bytes ring.now.n records.old rows.old m.now.to) (message bytes m.now))) (said result) (ring_of bytes ring.now records.new rows.new (waiting wire.new) (capacity wire.new)) }
-    ensures fit { true ≡ tables_fit (ring_of bytes ring.now records.new rows.new [] 0) }
+    requires sent { (1 ≤ m.now.from) × (m.now.from ≤ ring.now.n) × (in_range V.valid V.width (message V.bytes m.now) ≡ true) }
+    requires room { length (W.waiting wire.old) + (3 * ring.now.n + 8) ≤ W.capacity wire.old }
+    ensures gives { Gives (stepped (ring_of V.bytes ring.now records.old rows.old (W.waiting wire.old) (W.capacity wire.old)) m.now.to (W.waiting wire.old) (stepping (setting_in V.width V.allows ring.now) m.now.to (parties_of V.bytes ring.now.n records.old rows.old m.now.to) (message V.bytes m.now))) (said result) (ring_of V.bytes ring.now records.new rows.new (W.waiting wire.new) (W.capacity wire.new)) }
+    ensures fit { true ≡ tables_fit (ring_of V.bytes ring.now records.new rows.new [] 0) }
 {
     let to = m.to;
     let seat = Seat {

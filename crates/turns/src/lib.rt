@@ -1,3 +1,5 @@
+#![tactic(auto)]
+
 pub mod handling;
 pub mod starting;
 pub mod timing;

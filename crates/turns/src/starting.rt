@@ -25,8 +25,8 @@ pub fn start_party<V: Value, W: Wire<V>>(
 ) -> usize
     requires places { (ring.now.n ≤ length records.old) × (ring.now.n * ring.now.n ≤ length rows.old) }
     requires seated { (1 ≤ party) × (party ≤ ring.now.n) }
-    requires room { length (waiting wire.old) + ring.now.n ≤ capacity wire.old }
-    ensures { Gives (stepped (ring_of bytes ring.now records.old rows.old (waiting wire.old) (capacity wire.old)) party (waiting wire.old) (enter (setting_in width allows ring.now) party (newcomer (bytes own.now)) 1)) (said result) (ring_of bytes ring.now records.new rows.new (waiting wire.new) (capacity wire.new)) }
+    requires room { length (W.waiting wire.old) + ring.now.n ≤ W.capacity wire.old }
+    ensures { Gives (stepped (ring_of V.bytes ring.now records.old rows.old (W.waiting wire.old) (W.capacity wire.old)) party (W.waiting wire.old) (enter (setting_in V.width V.allows ring.now) party (newcomer (V.bytes own.now)) 1)) (said result) (ring_of V.bytes ring.now records.new rows.new (W.waiting wire.new) (W.capacity wire.new)) }
 {
     let seat = Seat {
         n: ring.n,

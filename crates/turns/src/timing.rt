@@ -24,13 +24,13 @@ pub fn time_out<V: Value, W: Wire<V>>(
     wire: &mut W,
     party: u8,
 ) -> usize
-    requires fit { true ≡ tables_fit (ring_of bytes ring.now records.old rows.old [] 0) }
+    requires fit { true ≡ tables_fit (ring_of V.bytes ring.now records.old rows.old [] 0) }
     requires places { (ring.now.n ≤ length records.old) × (ring.now.n * ring.now.n ≤ length rows.old) }
     requires honest { (1 ≤ party) × (party ≤ ring.now.n) × (false ≡ named ring.now.faulty party) }
-    requires early { (parties_of bytes ring.now.n records.old rows.old party).rec.view < last_view }
-    requires room { length (waiting wire.old) + (3 * ring.now.n + 8) ≤ capacity wire.old }
-    ensures gives { Gives (stepped (ring_of bytes ring.now records.old rows.old (waiting wire.old) (capacity wire.old)) party (waiting wire.old) (on_timer (setting_in width allows ring.now) party (parties_of bytes ring.now.n records.old rows.old party))) (said result) (ring_of bytes ring.now records.new rows.new (waiting wire.new) (capacity wire.new)) }
-    ensures fit { true ≡ tables_fit (ring_of bytes ring.now records.new rows.new [] 0) }
+    requires early { (parties_of V.bytes ring.now.n records.old rows.old party).rec.view < last_view }
+    requires room { length (W.waiting wire.old) + (3 * ring.now.n + 8) ≤ W.capacity wire.old }
+    ensures gives { Gives (stepped (ring_of V.bytes ring.now records.old rows.old (W.waiting wire.old) (W.capacity wire.old)) party (W.waiting wire.old) (on_timer (setting_in V.width V.allows ring.now) party (parties_of V.bytes ring.now.n records.old rows.old party))) (said result) (ring_of V.bytes ring.now records.new rows.new (W.waiting wire.new) (W.capacity wire.new)) }
+    ensures fit { true ≡ tables_fit (ring_of V.bytes ring.now records.new rows.new [] 0) }
 {
     let seat = Seat {
         n: ring.n,

@@ -27,8 +27,8 @@ fn tell_abort<V: Value, W: Wire<V>>(
     view: u32,
 ) -> usize
     requires whole { length rows.old ≡ seat.n }
-    requires taken { Takes valid width (capacity w.old) (waiting w.old) (say_abort (setting_of width allows seat) seat.me (party_of bytes own.now rows.old) view).posts }
-    ensures { Does (say_abort (setting_of width allows seat) seat.me (party_of bytes own.now rows.old) view) (party_of bytes own.now rows.new) (waiting w.old) (waiting w.new) (capacity w.old) (capacity w.new) result }
+    requires taken { Takes V.valid V.width (W.capacity w.old) (W.waiting w.old) (say_abort (setting_of V.width V.allows seat) seat.me (party_of V.bytes own.now rows.old) view).posts }
+    ensures { Does (say_abort (setting_of V.width V.allows seat) seat.me (party_of V.bytes own.now rows.old) view) (party_of V.bytes own.now rows.new) (W.waiting w.old) (W.waiting w.new) (W.capacity w.old) (W.capacity w.new) result }
 {
     let posts = send_view(seat, rows, w, 11, view);
     note_abort(rows, seat.me, view);
@@ -43,8 +43,8 @@ fn follow_abort<V: Value, W: Wire<V>>(
     w: &mut W,
 ) -> usize
     requires whole { length rows.old ≡ seat.n }
-    requires taken { Takes valid width (capacity w.old) (waiting w.old) (join_abort (setting_of width allows seat) seat.me (party_of bytes own.now rows.old)).posts }
-    ensures { Does (join_abort (setting_of width allows seat) seat.me (party_of bytes own.now rows.old)) (party_of bytes own.now rows.new) (waiting w.old) (waiting w.new) (capacity w.old) (capacity w.new) result }
+    requires taken { Takes V.valid V.width (W.capacity w.old) (W.waiting w.old) (join_abort (setting_of V.width V.allows seat) seat.me (party_of V.bytes own.now rows.old)).posts }
+    ensures { Does (join_abort (setting_of V.width V.allows seat) seat.me (party_of V.bytes own.now rows.old)) (party_of V.bytes own.now rows.new) (W.waiting w.old) (W.waiting w.new) (W.capacity w.old) (W.capacity w.new) result }
 {
     let view = vouched_abort(seat, rows);
     let row = row_from(rows, seat.me);
@@ -63,8 +63,8 @@ fn give_up<V: Value, W: Wire<V>>(
     w: &mut W,
 ) -> usize
     requires whole { length rows.old ≡ seat.n }
-    requires taken { Takes valid width (capacity w.old) (waiting w.old) (timed_out (setting_of width allows seat) seat.me (party_of bytes own.now rows.old)).posts }
-    ensures { Does (timed_out (setting_of width allows seat) seat.me (party_of bytes own.now rows.old)) (party_of bytes own.now rows.new) (waiting w.old) (waiting w.new) (capacity w.old) (capacity w.new) result }
+    requires taken { Takes V.valid V.width (W.capacity w.old) (W.waiting w.old) (timed_out (setting_of V.width V.allows seat) seat.me (party_of V.bytes own.now rows.old)).posts }
+    ensures { Does (timed_out (setting_of V.width V.allows seat) seat.me (party_of V.bytes own.now rows.old)) (party_of V.bytes own.now rows.new) (W.waiting w.old) (W.waiting w.new) (W.capacity w.old) (W.capacity w.new) result }
 {
     let row = row_from(rows, seat.me);
     if row.abort < own.view {
@@ -82,8 +82,8 @@ fn leave_view<V: Value, W: Wire<V>>(
     w: &mut W,
 ) -> usize
     requires whole { length rows.old ≡ seat.n }
-    requires taken { Takes valid width (capacity w.old) (waiting w.old) (leave (setting_of width allows seat) seat.me (party_of bytes own.old rows.old)).posts }
-    ensures { Does (leave (setting_of width allows seat) seat.me (party_of bytes own.old rows.old)) (party_of bytes own.new rows.new) (waiting w.old) (waiting w.new) (capacity w.old) (capacity w.new) result }
+    requires taken { Takes V.valid V.width (W.capacity w.old) (W.waiting w.old) (leave (setting_of V.width V.allows seat) seat.me (party_of V.bytes own.old rows.old)).posts }
+    ensures { Does (leave (setting_of V.width V.allows seat) seat.me (party_of V.bytes own.old rows.old)) (party_of V.bytes own.new rows.new) (W.waiting w.old) (W.waiting w.new) (W.capacity w.old) (W.capacity w.new) result }
 {
     let view = agreed_abort(seat, rows);
     if own.view <= view {
@@ -102,8 +102,8 @@ pub fn on_abort<V: Value, W: Wire<V>>(
     m: &Message<V>,
 ) -> usize
     requires whole { (length rows.old ≡ seat.n) × (1 ≤ m.now.from) × (m.now.from ≤ seat.n) }
-    requires taken { Takes valid width (capacity w.old) (waiting w.old) (on_abort (setting_of width allows seat) seat.me (party_of bytes own.old rows.old) (message bytes m.now)).posts }
-    ensures { Does (on_abort (setting_of width allows seat) seat.me (party_of bytes own.old rows.old) (message bytes m.now)) (party_of bytes own.new rows.new) (waiting w.old) (waiting w.new) (capacity w.old) (capacity w.new) result }
+    requires taken { Takes V.valid V.width (W.capacity w.old) (W.waiting w.old) (on_abort (setting_of V.width V.allows seat) seat.me (party_of V.bytes own.old rows.old) (message V.bytes m.now)).posts }
+    ensures { Does (on_abort (setting_of V.width V.allows seat) seat.me (party_of V.bytes own.old rows.old) (message V.bytes m.now)) (party_of V.bytes own.new rows.new) (W.waiting w.old) (W.waiting w.new) (W.capacity w.old) (W.capacity w.new) result }
 {
     let row = row_from(rows, m.from);
     note_abort(rows, m.from, row.abort.max(m.view));
@@ -120,8 +120,8 @@ pub fn on_time_out<V: Value, W: Wire<V>>(
     w: &mut W,
 ) -> usize
     requires whole { length rows.old ≡ seat.n }
-    requires taken { Takes valid width (capacity w.old) (waiting w.old) (on_timer (setting_of width allows seat) seat.me (party_of bytes own.old rows.old)).posts }
-    ensures { Does (on_timer (setting_of width allows seat) seat.me (party_of bytes own.old rows.old)) (party_of bytes own.new rows.new) (waiting w.old) (waiting w.new) (capacity w.old) (capacity w.new) result }
+    requires taken { Takes V.valid V.width (W.capacity w.old) (W.waiting w.old) (on_timer (setting_of V.width V.allows seat) seat.me (party_of V.bytes own.old rows.old)).posts }
+    ensures { Does (on_timer (setting_of V.width V.allows seat) seat.me (party_of V.bytes own.old rows.old)) (party_of V.bytes own.new rows.new) (W.waiting w.old) (W.waiting w.new) (W.capacity w.old) (W.capacity w.new) result }
 {
     let aborts = give_up(seat, own, rows, w);
     let entries = leave_view(seat, own, rows, w);

@@ -27,8 +27,8 @@ fn suggest_primary<V: Value, W: Wire<V>>(
     w: &mut W,
 ) -> usize
     requires whole { length rows.now ≡ seat.n }
-    requires taken { Takes valid width (capacity w.old) (waiting w.old) (if nat_eq (rows_of bytes rows.now (leader (setting_of width allows seat) own.now.view)).request own.now.view then suggest_msg (setting_of width allows seat) seat.me own.now.view (record_of bytes own.now).suggest (leader (setting_of width allows seat) own.now.view) ∷ [] else []) }
-    ensures { Posted (waiting w.old) (waiting w.new) (capacity w.old) (capacity w.new) result (if nat_eq (rows_of bytes rows.now (leader (setting_of width allows seat) own.now.view)).request own.now.view then suggest_msg (setting_of width allows seat) seat.me own.now.view (record_of bytes own.now).suggest (leader (setting_of width allows seat) own.now.view) ∷ [] else []) }
+    requires taken { Takes V.valid V.width (W.capacity w.old) (W.waiting w.old) (if nat_eq (rows_of V.bytes rows.now (leader (setting_of V.width V.allows seat) own.now.view)).request own.now.view then suggest_msg (setting_of V.width V.allows seat) seat.me own.now.view (record_of V.bytes own.now).suggest (leader (setting_of V.width V.allows seat) own.now.view) ∷ [] else []) }
+    ensures { Posted (W.waiting w.old) (W.waiting w.new) (W.capacity w.old) (W.capacity w.new) result (if nat_eq (rows_of V.bytes rows.now (leader (setting_of V.width V.allows seat) own.now.view)).request own.now.view then suggest_msg (setting_of V.width V.allows seat) seat.me own.now.view (record_of V.bytes own.now).suggest (leader (setting_of V.width V.allows seat) own.now.view) ∷ [] else []) }
 {
     let primary = primary_of::<V>(seat, own.view);
     let row = row_from(rows, primary);
@@ -50,8 +50,8 @@ pub fn enter<V: Value, W: Wire<V>>(
     view: u32,
 ) -> usize
     requires whole { length rows.old ≡ seat.n }
-    requires taken { Takes valid width (capacity w.old) (waiting w.old) (entering (setting_of width allows seat) seat.me (party_of bytes own.old rows.old) view).posts }
-    ensures { Does (entering (setting_of width allows seat) seat.me (party_of bytes own.old rows.old) view) (party_of bytes own.new rows.new) (waiting w.old) (waiting w.new) (capacity w.old) (capacity w.new) result }
+    requires taken { Takes V.valid V.width (W.capacity w.old) (W.waiting w.old) (entering (setting_of V.width V.allows seat) seat.me (party_of V.bytes own.old rows.old) view).posts }
+    ensures { Does (entering (setting_of V.width V.allows seat) seat.me (party_of V.bytes own.old rows.old) view) (party_of V.bytes own.new rows.new) (W.waiting w.old) (W.waiting w.new) (W.capacity w.old) (W.capacity w.new) result }
 {
     enter_view(own, view);
     clear_rows(rows);

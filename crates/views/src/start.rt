@@ -15,7 +15,7 @@ use wires::wire::Wire;
 
 // The record before the first view: no lock and no key, and the party's own value for each.
 fn new_record<V: Value>(value: &V) -> Record<V>
-    ensures { record_of bytes result ≡ (newcomer (bytes value.now)).rec }
+    ensures { record_of V.bytes result ≡ (newcomer (V.bytes value.now)).rec }
 {
     let never = Keyed {
         at: 0,
@@ -47,7 +47,7 @@ fn new_record<V: Value>(value: &V) -> Record<V>
 
 // Empties every row.
 fn empty_rows<V: Value>(rows: &mut [Row<V>])
-    ensures { rows_of bytes rows.new ≡ (λ _. empty_row) }
+    ensures { rows_of V.bytes rows.new ≡ (λ _. empty_row) }
 {
     for row in rows.iter_mut() {
         *row = Row {
@@ -74,9 +74,9 @@ pub fn start<V: Value, W: Wire<V>>(
     value: &V,
 ) -> usize
     requires whole { length rows.old ≡ seat.n }
-    requires room { length (waiting w.old) + seat.n ≤ capacity w.old }
-    ensures step { Does (entering (setting_of width allows seat) seat.me (newcomer (bytes value.now)) 1) (party_of bytes own.new rows.new) (waiting w.old) (waiting w.new) (capacity w.old) (capacity w.new) result }
-    ensures fits { party_fits seat.n (party_of bytes own.new rows.new) ≡ true }
+    requires room { length (W.waiting w.old) + seat.n ≤ W.capacity w.old }
+    ensures step { Does (entering (setting_of V.width V.allows seat) seat.me (newcomer (V.bytes value.now)) 1) (party_of V.bytes own.new rows.new) (W.waiting w.old) (W.waiting w.new) (W.capacity w.old) (W.capacity w.new) result }
+    ensures fits { party_fits seat.n (party_of V.bytes own.new rows.new) ≡ true }
 {
     *own = new_record(value);
     empty_rows(rows);

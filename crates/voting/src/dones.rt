@@ -21,7 +21,7 @@ use wires::wire::Wire;
 // Whether no done was sent and a quorum has locked the value.
 fn due_by_locks<V: Value>(seat: Seat, own: &Record<V>, rows: &[Row<V>], value: &V) -> bool
     requires { length rows.now ≡ seat.n }
-    ensures { result ≡ (none (record_of bytes own.now).done && voted (setting_of width allows seat) (party_of bytes own.now rows.now) 9 (bytes value.now)) }
+    ensures { result ≡ (none (record_of V.bytes own.now).done && voted (setting_of V.width V.allows seat) (party_of V.bytes own.now rows.now) 9 (V.bytes value.now)) }
 {
     own.done.is_none()
         && has_quorum(
@@ -37,7 +37,7 @@ fn due_by_locks<V: Value>(seat: Seat, own: &Record<V>, rows: &[Row<V>], value: &
 // Whether no done was sent and a voucher is done with the value.
 fn due_by_dones<V: Value>(seat: Seat, own: &Record<V>, rows: &[Row<V>], value: &V) -> bool
     requires { length rows.now ≡ seat.n }
-    ensures { result ≡ (none (record_of bytes own.now).done && done_vouched (setting_of width allows seat) (party_of bytes own.now rows.now) (bytes value.now)) }
+    ensures { result ≡ (none (record_of V.bytes own.now).done && done_vouched (setting_of V.width V.allows seat) (party_of V.bytes own.now rows.now) (V.bytes value.now)) }
 {
     own.done.is_none() && has_voucher(seat, rows, &Told { value: *value })
 }
@@ -51,8 +51,8 @@ fn tell_done<V: Value, W: Wire<V>>(
     value: &V,
 ) -> usize
     requires whole { length rows.now ≡ seat.n }
-    requires taken { Takes valid width (capacity w.old) (waiting w.old) (say_done (setting_of width allows seat) seat.me (party_of bytes own.old rows.now) (bytes value.now)).posts }
-    ensures { Does (say_done (setting_of width allows seat) seat.me (party_of bytes own.old rows.now) (bytes value.now)) (party_of bytes own.new rows.now) (waiting w.old) (waiting w.new) (capacity w.old) (capacity w.new) result }
+    requires taken { Takes V.valid V.width (W.capacity w.old) (W.waiting w.old) (say_done (setting_of V.width V.allows seat) seat.me (party_of V.bytes own.old rows.now) (V.bytes value.now)).posts }
+    ensures { Does (say_done (setting_of V.width V.allows seat) seat.me (party_of V.bytes own.old rows.now) (V.bytes value.now)) (party_of V.bytes own.new rows.now) (W.waiting w.old) (W.waiting w.new) (W.capacity w.old) (W.capacity w.new) result }
 {
     let posts = send_done(seat, rows, w, value);
     own.done = Some(*value);
@@ -68,8 +68,8 @@ pub fn on_lock<V: Value, W: Wire<V>>(
     m: &Message<V>,
 ) -> usize
     requires whole { (length rows.old ≡ seat.n) × (1 ≤ m.now.from) × (m.now.from ≤ seat.n) × (m.now.kind ≡ 9) }
-    requires taken { Takes valid width (capacity w.old) (waiting w.old) (on_lock (setting_of width allows seat) seat.me (party_of bytes own.old rows.old) (message bytes m.now)).posts }
-    ensures { Does (on_lock (setting_of width allows seat) seat.me (party_of bytes own.old rows.old) (message bytes m.now)) (party_of bytes own.new rows.new) (waiting w.old) (waiting w.new) (capacity w.old) (capacity w.new) result }
+    requires taken { Takes V.valid V.width (W.capacity w.old) (W.waiting w.old) (on_lock (setting_of V.width V.allows seat) seat.me (party_of V.bytes own.old rows.old) (message V.bytes m.now)).posts }
+    ensures { Does (on_lock (setting_of V.width V.allows seat) seat.me (party_of V.bytes own.old rows.old) (message V.bytes m.now)) (party_of V.bytes own.new rows.new) (W.waiting w.old) (W.waiting w.new) (W.capacity w.old) (W.capacity w.new) result }
 {
     note_vote(rows, m.from, m.kind, &m.value);
     if due_by_locks(seat, own, rows, &m.value) {
@@ -88,8 +88,8 @@ fn follow_done<V: Value, W: Wire<V>>(
     value: &V,
 ) -> usize
     requires whole { length rows.now ≡ seat.n }
-    requires taken { Takes valid width (capacity w.old) (waiting w.old) (join_done (setting_of width allows seat) seat.me (party_of bytes own.old rows.now) (bytes value.now)).posts }
-    ensures { Does (join_done (setting_of width allows seat) seat.me (party_of bytes own.old rows.now) (bytes value.now)) (party_of bytes own.new rows.now) (waiting w.old) (waiting w.new) (capacity w.old) (capacity w.new) result }
+    requires taken { Takes V.valid V.width (W.capacity w.old) (W.waiting w.old) (join_done (setting_of V.width V.allows seat) seat.me (party_of V.bytes own.old rows.now) (V.bytes value.now)).posts }
+    ensures { Does (join_done (setting_of V.width V.allows seat) seat.me (party_of V.bytes own.old rows.now) (V.bytes value.now)) (party_of V.bytes own.new rows.now) (W.waiting w.old) (W.waiting w.new) (W.capacity w.old) (W.capacity w.new) result }
 {
     if due_by_dones(seat, own, rows, value) {
         tell_done(seat, own, rows, w, value)
@@ -101,7 +101,7 @@ fn follow_done<V: Value, W: Wire<V>>(
 // With a quorum for the value it is decided.
 fn try_decide<V: Value>(seat: Seat, own: &mut Record<V>, rows: &[Row<V>], value: &V)
     requires { length rows.now ≡ seat.n }
-    ensures { party_of bytes own.new rows.now ≡ (decide (setting_of width allows seat) seat.me (bytes value.now) (party_of bytes own.old rows.now)).after }
+    ensures { party_of V.bytes own.new rows.now ≡ (decide (setting_of V.width V.allows seat) seat.me (V.bytes value.now) (party_of V.bytes own.old rows.now)).after }
 {
     if has_quorum(seat, rows, &Told { value: *value }) {
         own.decision = Some(*value);
@@ -117,8 +117,8 @@ pub fn on_done<V: Value, W: Wire<V>>(
     m: &Message<V>,
 ) -> usize
     requires whole { (length rows.old ≡ seat.n) × (1 ≤ m.now.from) × (m.now.from ≤ seat.n) }
-    requires taken { Takes valid width (capacity w.old) (waiting w.old) (on_done (setting_of width allows seat) seat.me (party_of bytes own.old rows.old) (message bytes m.now)).posts }
-    ensures { Does (on_done (setting_of width allows seat) seat.me (party_of bytes own.old rows.old) (message bytes m.now)) (party_of bytes own.new rows.new) (waiting w.old) (waiting w.new) (capacity w.old) (capacity w.new) result }
+    requires taken { Takes V.valid V.width (W.capacity w.old) (W.waiting w.old) (on_done (setting_of V.width V.allows seat) seat.me (party_of V.bytes own.old rows.old) (message V.bytes m.now)).posts }
+    ensures { Does (on_done (setting_of V.width V.allows seat) seat.me (party_of V.bytes own.old rows.old) (message V.bytes m.now)) (party_of V.bytes own.new rows.new) (W.waiting w.old) (W.waiting w.new) (W.capacity w.old) (W.capacity w.new) result }
 {
     note_done(rows, m.from, &m.value);
     let posts = follow_done(seat, own, rows, w, &m.value);

@@ -1,2 +1,4 @@
+#![tactic(auto)]
+
 pub mod dones;
 pub mod votes;

@@ -20,7 +20,7 @@ use wires::wire::Wire;
 // Whether a quorum has voted for the value by this kind, and the next field is not yet of this view.
 fn announce_due<V: Value>(seat: Seat, own: &Record<V>, rows: &[Row<V>], kind: u8, value: &V) -> bool
     requires { (length rows.now ≡ seat.n) × (5 ≤ kind) × (kind ≤ 8) }
-    ensures { result ≡ due (setting_of width allows seat) seat.me (party_of bytes own.now rows.now) kind (bytes value.now) }
+    ensures { result ≡ due (setting_of V.width V.allows seat) seat.me (party_of V.bytes own.now rows.now) kind (V.bytes value.now) }
 {
     has_quorum(
         seat,
@@ -42,8 +42,8 @@ fn announce<V: Value, W: Wire<V>>(
     value: &V,
 ) -> usize
     requires whole { (length rows.now ≡ seat.n) × (6 ≤ kind) × (kind ≤ 9) }
-    requires taken { Takes valid width (capacity w.old) (waiting w.old) (announced (setting_of width allows seat) seat.me (party_of bytes own.old rows.now) kind (bytes value.now)).posts }
-    ensures { Does (announced (setting_of width allows seat) seat.me (party_of bytes own.old rows.now) kind (bytes value.now)) (party_of bytes own.new rows.now) (waiting w.old) (waiting w.new) (capacity w.old) (capacity w.new) result }
+    requires taken { Takes V.valid V.width (W.capacity w.old) (W.waiting w.old) (announced (setting_of V.width V.allows seat) seat.me (party_of V.bytes own.old rows.now) kind (V.bytes value.now)).posts }
+    ensures { Does (announced (setting_of V.width V.allows seat) seat.me (party_of V.bytes own.old rows.now) kind (V.bytes value.now)) (party_of V.bytes own.new rows.now) (W.waiting w.old) (W.waiting w.new) (W.capacity w.old) (W.capacity w.new) result }
 {
     let posts = make_vote(seat, own, rows, w, kind, value);
     move_field(own, kind, value);
@@ -59,8 +59,8 @@ pub fn on_vote<V: Value, W: Wire<V>>(
     m: &Message<V>,
 ) -> usize
     requires whole { (length rows.old ≡ seat.n) × (1 ≤ m.now.from) × (m.now.from ≤ seat.n) × (5 ≤ m.now.kind) × (m.now.kind ≤ 8) }
-    requires taken { Takes valid width (capacity w.old) (waiting w.old) (on_vote (setting_of width allows seat) seat.me (party_of bytes own.old rows.old) (message bytes m.now)).posts }
-    ensures { Does (on_vote (setting_of width allows seat) seat.me (party_of bytes own.old rows.old) (message bytes m.now)) (party_of bytes own.new rows.new) (waiting w.old) (waiting w.new) (capacity w.old) (capacity w.new) result }
+    requires taken { Takes V.valid V.width (W.capacity w.old) (W.waiting w.old) (on_vote (setting_of V.width V.allows seat) seat.me (party_of V.bytes own.old rows.old) (message V.bytes m.now)).posts }
+    ensures { Does (on_vote (setting_of V.width V.allows seat) seat.me (party_of V.bytes own.old rows.old) (message V.bytes m.now)) (party_of V.bytes own.new rows.new) (W.waiting w.old) (W.waiting w.new) (W.capacity w.old) (W.capacity w.new) result }
 {
     note_vote(rows, m.from, m.kind, &m.value);
     if announce_due(seat, own, rows, m.kind, &m.value) {

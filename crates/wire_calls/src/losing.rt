@@ -13,7 +13,7 @@ use wires::wire::Wire;
 
 // Takes out the message at a place, and answers 0. It is the same over every ring with this wire.
 pub fn discard<V: Value, W: Wire<V>>(wire: &mut W, place: usize) -> Result<usize, Refusal>
-    ensures { (s : model.Ring) → Gives (obey (kind_of width valid allows) (rewired s (waiting wire.old) (capacity wire.old)) (lose place)) (answer_of result) (rewired s (waiting wire.new) (capacity wire.new)) }
+    ensures { (s : model.Ring) → Gives (obey (kind_of V.width V.valid V.allows) (rewired s (W.waiting wire.old) (W.capacity wire.old)) (lose place)) (answer_of result) (rewired s (W.waiting wire.new) (W.capacity wire.new)) }
 {
     match wire.take_out(place) {
         Ok(_) => Ok(0),

@@ -31,10 +31,10 @@ fn refusal_of(fault: WireFault) -> Refusal
 
 // Posts a message, and answers 1.
 fn post<V: Value, W: Wire<V>>(wire: &mut W, m: &Message<V>) -> Result<usize, Refusal>
-    ensures kept { capacity wire.new ≡ capacity wire.old }
-    ensures value { result_of (λ _. tt) result ≡ post_answer valid width (capacity wire.old) (waiting wire.old) (message bytes m.now) }
+    ensures kept { W.capacity wire.new ≡ W.capacity wire.old }
+    ensures value { result_of (λ _. tt) result ≡ post_answer V.valid V.width (W.capacity wire.old) (W.waiting wire.old) (message V.bytes m.now) }
     ensures one { IfOk result (λ posts. posts ≡ 1) }
-    ensures after { waiting wire.new ≡ posted valid width (capacity wire.old) (waiting wire.old) (message bytes m.now) }
+    ensures after { W.waiting wire.new ≡ posted V.valid V.width (W.capacity wire.old) (W.waiting wire.old) (message V.bytes m.now) }
 {
     match wire.post(m) {
         Ok(_) => Ok(1),
@@ -48,7 +48,7 @@ pub fn speak<V: Value, W: Wire<V>>(
     wire: &mut W,
     m: &Message<V>,
 ) -> Result<usize, Refusal>
-    ensures { (parties : ℕ → Party) (records rows : ℕ) → Gives (obey (kind_of width valid allows) (ring_with ring.now parties records rows (waiting wire.old) (capacity wire.old)) (send (message bytes m.now))) (answer_of result) (ring_with ring.now parties records rows (waiting wire.new) (capacity wire.new)) }
+    ensures { (parties : ℕ → Party) (records rows : ℕ) → Gives (obey (kind_of V.width V.valid V.allows) (ring_with ring.now parties records rows (W.waiting wire.old) (W.capacity wire.old)) (send (message V.bytes m.now))) (answer_of result) (ring_with ring.now parties records rows (W.waiting wire.new) (W.capacity wire.new)) }
 {
     let refusal = standing_refusal(has_both(ring, m), is_named(ring.faulty, m.from));
     match refusal {

@@ -8,7 +8,7 @@ use values::value::Value;
 
 // The request that an entry out of range means.
 pub fn fixed_request<V: Value>() -> Message<V>
-    ensures { message bytes result ≡ fixed_request width }
+    ensures { message V.bytes result ≡ fixed_request V.width }
 {
     Message {
         kind: 1,

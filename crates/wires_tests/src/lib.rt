@@ -1,4 +1,6 @@
 // Both wires, driven through the same calls.
+#![tactic(auto)]
+
 #[cfg(test)]
 mod drive;
 #[cfg(test)]

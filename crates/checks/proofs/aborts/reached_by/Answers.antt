@@ -8,7 +8,7 @@ use Rattle.checks.proofs.aborts.reached_by.Goals.{then-tally-size, else-tally-si
 
 pub loop-row-preserved : goal.loop-row-preserved
 loop-row-preserved g c =
-    let b = g.row.V-Value.bytes in
+    let b = g.V.Value.bytes in
     let rs = c.args.rows.now in
     let t : ℕ → Bool = λ x. leb c.args.size (count (λ j. leb x (rows_of b rs j).abort) (length rs)) in
     elim c.if-tally-size.branch [
@@ -18,7 +18,7 @@ loop-row-preserved g c =
 
 pub returns : goal.returns
 returns g c =
-    let b = g.row.V-Value.bytes in
+    let b = g.V.Value.bytes in
     let rs = c.args.rows.now in
     let e : c.loop-row.row-index ≡ length rs = omega arith in
     c.loop-row.invariant ∙ ap (largest (λ j. (rows_of b rs j).abort) (λ x. leb c.args.size (count (λ j. leb x (rows_of b rs j).abort) (length rs)))) e

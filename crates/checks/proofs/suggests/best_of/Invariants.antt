@@ -6,5 +6,5 @@ use Rattle.checks.proofs.suggests.best_of.Given as goal
 
 abbrev pub invariant-loop-row : goal.invariant-loop-row
 invariant-loop-row g l =
-    let v = g.row.V-Value in
+    let v = g.V.Value in
     option_map (suggest_of v.bytes) l.top ≡ best (setting_of v.width v.allows l.seat) (party_of v.bytes l.own l.rows) l.row-index

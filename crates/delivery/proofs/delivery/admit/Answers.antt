@@ -4,10 +4,10 @@ use Rattle.agreement.proofs.Obeyed.{none_there}
 use Rattle.delivery.specs.Admission.{admitted}
 use Rattle.delivery.proofs.delivery.admit.Goals as goal
 
-pub returns-in-default : goal.returns-in-default
-returns-in-default g c =
+pub returns-in_default : goal.returns-in_default
+returns-in_default g c =
     let w = g.W.Wire.waiting c.args.wire.now in
     let q = g.W.Wire.capacity c.args.wire.now in
-    let e = c.in-default.ensures.value in
-    let nine = (none_there w c.args.place (fault_number c.in-default.field-0) (sym e)).0 in
+    let e = c.in_default.ensures.value in
+    let nine = (none_there w c.args.place (fault_number c.in_default.field-0) (sym e)).0 in
     record { value = sym (ap (admitted c.args.ring.now.n q w) (sym e) ∙ ap Err nine); ranged = tt }

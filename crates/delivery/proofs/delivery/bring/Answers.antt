@@ -12,13 +12,13 @@ use Rattle.delivery.proofs.delivery.bring.Goals as goal
 
 pub reach-requires : goal.reach-requires
 reach-requires g c =
-    let v = g.row.V-Value in
+    let v = g.V.Value in
     let k = kind_of v.width v.valid v.allows in
     let s = ring_of v.bytes c.args.ring.now c.args.records.now c.args.rows.now (g.W.Wire.waiting c.args.wire.now) (g.W.Wire.capacity c.args.wire.now) in
     let t = let_through s.n s.capacity s.wire (looked s.wire c.args.place) (message v.bytes c.in-Ok.m) (sym c.in-Ok.ensures.value) in
-    let e = c.take-unless.ensures in
-    let w = g.W.Wire.waiting c.take-unless.new.wire in
-    let q = g.W.Wire.capacity c.take-unless.new.wire in
+    let e = c.take_unless.ensures in
+    let w = g.W.Wire.waiting c.take_unless.new.wire in
+    let q = g.W.Wire.capacity c.take_unless.new.wire in
     record {
       fit = c.requires;
       known = t.1;
@@ -28,14 +28,14 @@ reach-requires g c =
 
 pub returns-in-Ok : goal.returns-in-Ok
 returns-in-Ok g c =
-    let v = g.row.V-Value in
+    let v = g.V.Value in
     let k = kind_of v.width v.valid v.allows in
     let s = ring_of v.bytes c.args.ring.now c.args.records.now c.args.rows.now (g.W.Wire.waiting c.args.wire.now) (g.W.Wire.capacity c.args.wire.now) in
     let w = cond c.args.keep s.wire (taken s.wire c.args.place) in
     let m = message v.bytes c.in-Ok.m in
     let t = let_through s.n s.capacity s.wire (looked s.wire c.args.place) m (sym c.in-Ok.ensures.value) in
-    let e = c.take-unless.ensures in
-    let q = g.W.Wire.capacity c.take-unless.new.wire in
+    let e = c.take_unless.ensures in
+    let q = g.W.Wire.capacity c.take_unless.new.wire in
     let s' = ring_of v.bytes c.args.ring.now c.reach.new.records c.reach.new.rows (g.W.Wire.waiting c.reach.new.wire) (g.W.Wire.capacity c.reach.new.wire) in
     record {
       gives = bring_all k s c.args.place w m t.0 (said c.reach.result) s' t.1 t.2
@@ -47,7 +47,7 @@ returns-in-Ok g c =
 
 pub returns-in-Err : goal.returns-in-Err
 returns-in-Err g c =
-    let v = g.row.V-Value in
+    let v = g.V.Value in
     let k = kind_of v.width v.valid v.allows in
     let s = ring_of v.bytes c.args.ring.now c.args.records.now c.args.rows.now (g.W.Wire.waiting c.args.wire.now) (g.W.Wire.capacity c.args.wire.now) in
     let w = cond c.args.keep s.wire (taken s.wire c.args.place) in

@@ -9,40 +9,40 @@ use Rattle.frames.proofs.Back.{writes_back}
 use Rattle.frames.proofs.Calls.{fields_are, no_length, no_zero, no_value, no_second, no_range, is-message, first_part, second_part}
 use Rattle.frames.proofs.codec.read_frame.Goals as goal
 
-pub returns-then-from-frame-length : goal.returns-then-from-frame-length
-returns-then-from-frame-length g c = (no_length g.row.V-Value.valid g.row.V-Value.width c.args.from.now (λ e. omega (arith, c.frame_length.ensures)), refl)
+pub returns-then-from-frame_length : goal.returns-then-from-frame_length
+returns-then-from-frame_length g c = (no_length g.V.Value.valid g.V.Value.width c.args.from.now (λ e. omega (arith, c.frame_length.ensures)), refl)
 
 pub returns-then-from-ne0 : goal.returns-then-from-ne0
-returns-then-from-ne0 g c = (no_zero g.row.V-Value.valid g.row.V-Value.width c.args.from.now (λ e. omega arith), refl)
+returns-then-from-ne0 g c = (no_zero g.V.Value.valid g.V.Value.width c.args.from.now (λ e. omega arith), refl)
 
-pub returns-in-default : goal.returns-in-default
-returns-in-default g c =
-    let v = g.row.V-Value in
+pub returns-in_default : goal.returns-in_default
+returns-in_default g c =
+    let v = g.V.Value in
     let bs = c.args.from.now in
-    (no_value v.valid v.width bs (ap v.valid (first_part bs v.width c.width-of-second.result c.width-of-second.ensures) ∙ c.in-default.ensures), refl)
+    (no_value v.valid v.width bs (ap v.valid (first_part bs v.width c.width_of-second.result c.width_of-second.ensures) ∙ c.in_default.ensures), refl)
 
-pub returns-in-default-read : goal.returns-in-default-read
-returns-in-default-read g c =
-    let v = g.row.V-Value in
+pub returns-in_default-read : goal.returns-in_default-read
+returns-in_default-read g c =
+    let v = g.V.Value in
     let bs = c.args.from.now in
-    (no_second v.valid v.width bs (ap v.valid (second_part bs v.width c.width-of-second.result c.width-of-second.ensures) ∙ c.in-default-read.ensures), refl)
+    (no_second v.valid v.width bs (ap v.valid (second_part bs v.width c.width_of-second.result c.width_of-second.ensures) ∙ c.in_default-read.ensures), refl)
 
-pub returns-then-not-in-range : goal.returns-then-not-in-range
-returns-then-not-in-range g c =
-    let v = g.row.V-Value in
+pub returns-then-not-in_range : goal.returns-then-not-in_range
+returns-then-not-in_range g c =
+    let v = g.V.Value in
     let bs = c.args.from.now in
-    let x = c.in-Some.ensures.1 ∙ sym (first_part bs v.width c.width-of-second.result c.width-of-second.ensures) in
-    let y = c.in-Some-read.ensures.1 ∙ sym (second_part bs v.width c.width-of-second.result c.width-of-second.ensures) in
-    let e = fields_are v.width bs c.u32-at.result c.u32-at-2.result c.u32-at-3.result c.u32-at-4.result c.previous_of.result (v.bytes c.in-Some.value) (v.bytes c.in-Some-read.second_value) (cc) (cc) (cc) (cc) (cc) x y in
-    (no_range v.valid v.width bs _ e (sym c.if-not-in-range.ensures), refl)
+    let x = c.in-Some.ensures.1 ∙ sym (first_part bs v.width c.width_of-second.result c.width_of-second.ensures) in
+    let y = c.in-Some-read.ensures.1 ∙ sym (second_part bs v.width c.width_of-second.result c.width_of-second.ensures) in
+    let e = fields_are v.width bs c.u32_at.result c.u32_at-2.result c.u32_at-3.result c.u32_at-4.result c.previous_of.result (v.bytes c.in-Some.value) (v.bytes c.in-Some-read.second_value) (cc) (cc) (cc) (cc) (cc) x y in
+    (no_range v.valid v.width bs _ e (sym c.if-not-in_range.ensures), refl)
 
 pub returns : goal.returns
 returns g c =
-    let v = g.row.V-Value in
+    let v = g.V.Value in
     let bs = c.args.from.now in
-    let x = c.in-Some.ensures.1 ∙ sym (first_part bs v.width c.width-of-second.result c.width-of-second.ensures) in
-    let y = c.in-Some-read.ensures.1 ∙ sym (second_part bs v.width c.width-of-second.result c.width-of-second.ensures) in
-    let e = fields_are v.width bs c.u32-at.result c.u32-at-2.result c.u32-at-3.result c.u32-at-4.result c.previous_of.result (v.bytes c.in-Some.value) (v.bytes c.in-Some-read.second_value) (cc) (cc) (cc) (cc) (cc) x y in
-    let u : AllBelowBase 256 bs = All-from_get_or (λ b. b < 256) bs 0 (λ i h. omega (arith, c.type-inv.from i)) in
-    let m = is-message v.valid v.width bs _ (c.if-from-frame-length.false ∙ c.frame_length.ensures) c.if-from-ne0.false e (sym c.if-not-in-range.ensures) in
+    let x = c.in-Some.ensures.1 ∙ sym (first_part bs v.width c.width_of-second.result c.width_of-second.ensures) in
+    let y = c.in-Some-read.ensures.1 ∙ sym (second_part bs v.width c.width_of-second.result c.width_of-second.ensures) in
+    let e = fields_are v.width bs c.u32_at.result c.u32_at-2.result c.u32_at-3.result c.u32_at-4.result c.previous_of.result (v.bytes c.in-Some.value) (v.bytes c.in-Some-read.second_value) (cc) (cc) (cc) (cc) (cc) x y in
+    let u : AllBelowBase 256 bs = All-from_get_or (λ b. b < 256) bs 0 (λ i h. omega (arith, c.type_inv.from i)) in
+    let m = is-message v.valid v.width bs _ (c.if-from-frame_length.false ∙ c.frame_length.ensures) c.if-from-ne0.false e (sym c.if-not-in_range.ensures) in
     (m, writes_back v.valid v.width bs _ u m)

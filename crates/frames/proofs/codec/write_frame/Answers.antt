@@ -6,13 +6,13 @@ use Rattle.frames.proofs.codec.write_frame.Goals as goal
 
 pub returns : goal.returns
 returns g c =
-    let v = g.row.V-Value in
+    let v = g.V.Value in
     let m = message v.bytes c.args.m.now in
     let out = c.args.out.now in
-    let h = sym c.if-not-in-range.ensures in
-    let l : frame_length v.width ≤ length out = omega (arith, c.frame-length-length.ensures) in
+    let h = sym c.if-not-in_range.ensures in
+    let l : frame_length v.width ≤ length out = omega (arith, c.frame_length-length.ensures) in
     record {
-      answer = is-written v.valid v.width m out c.frame-length-length.result c.frame-length-length.ensures l h;
-      after = c.write-frame-at.ensures ∙ is-after v.valid v.width m out l h;
-      back = λ _. ap (λ w. unframe v.valid v.width (take (frame_length v.width) w)) c.write-frame-at.ensures ∙ front_back v.valid v.width out m h;
+      answer = is-written v.valid v.width m out c.frame_length-length.result c.frame_length-length.ensures l h;
+      after = c.write_frame_at.ensures ∙ is-after v.valid v.width m out l h;
+      back = λ _. ap (λ w. unframe v.valid v.width (take (frame_length v.width) w)) c.write_frame_at.ensures ∙ front_back v.valid v.width out m h;
     }

@@ -8,8 +8,8 @@ use Rattle.frames.proofs.codec.write_frame_at.Goals as goal
 pub returns : goal.returns
 unfolding frame
 returns g c =
-    let v = g.row.V-Value in
+    let v = g.V.Value in
     let m = message v.bytes c.args.m.now in
     let size = g.met.V.Value.sized c.args.m.now.value in
     let front = c.put.ensures ∙ ap (over c.args.out.now c.args.at) c.header-head.ensures in
-    three_writes c.args.out.now c.put.new.out c.write.new.out c.write-2.new.out (head m) m.value m.second_value c.args.at 20 (20 + c.width-of-second.result) refl (omega arith) (omega arith) (omega arith) front (cc) (cc)
+    three_writes c.args.out.now c.put.new.out c.write.new.out c.write-2.new.out (head m) m.value m.second_value c.args.at 20 (20 + c.width_of-second.result) refl (omega arith) (omega arith) (omega arith) front (cc) (cc)

@@ -13,10 +13,10 @@ same-facts k r v v' a a' h l l' f f' e ev ea el ef =
 
 pub returns : goal.returns
 returns g c =
-    let v = g.row.V-Value in
+    let v = g.V.Value in
     let s = setting_of v.width v.allows c.args.seat in
     let m = c.args.m.now in
-    same-facts m.kind _ _ _ _ _ _ _ _ _ _ c.takes-in.ensures c.is-open.ensures
-    (ap (λ r. ltb r.request m.view) c.row-from-row.ensures)
-    (c.is-led-led.ensures ∙ ap (λ k. led_by c.args.seat.me k m.from m.kind) c.primary-of.ensures)
-    (c.is-first-first.ensures s ∙ ap (λ r. first_by s (proposal_of v.bytes c.args.own.now.proposal) r m.kind) c.row-from-row.ensures)
+    same-facts m.kind _ _ _ _ _ _ _ _ _ _ c.takes_in.ensures c.is_open.ensures
+    (ap (λ r. ltb r.request m.view) c.row_from-row.ensures)
+    (c.is_led-led.ensures ∙ ap (λ k. led_by c.args.seat.me k m.from m.kind) c.primary_of.ensures)
+    (c.is_first-first.ensures s ∙ ap (λ r. first_by s (proposal_of v.bytes c.args.own.now.proposal) r m.kind) c.row_from-row.ensures)

@@ -7,4 +7,4 @@ use Rattle.heed.proofs.heed.is_first.Goals as goal
 pub returns-in-4 : goal.returns-in-4
 returns-in-4 g c = λ s.
     let e : c.args.kind ≡ 4 = omega arith in
-    c.no-proposal.ensures s ∙ sym (ap (first_by s (proposal_of g.row.V-Value.bytes c.args.own.now.proposal) (row_of g.row.V-Value.bytes c.args.row.now)) e)
+    c.no_proposal.ensures s ∙ sym (ap (first_by s (proposal_of g.V.Value.bytes c.args.own.now.proposal) (row_of g.V.Value.bytes c.args.row.now)) e)

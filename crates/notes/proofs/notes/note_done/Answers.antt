@@ -2,4 +2,4 @@ use Rattle.std.proofs.Common.{sym, rules}
 use Rattle.notes.proofs.notes.note_done.Goals as goal
 
 pub returns : goal.returns
-returns g c = let e = sym c.row-from-row.ensures in search (rules, e)
+returns g c = let e = sym c.row_from-row.ensures in search (rules, e)

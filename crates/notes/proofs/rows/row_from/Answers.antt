@@ -2,4 +2,4 @@ use Rattle.rows.proofs.Senders.{row_from}
 use Rattle.notes.proofs.rows.row_from.Goals as goal
 
 pub returns : goal.returns
-returns g c = row_from g.row.V-Value.bytes c.args.rows.now c.args.from _ c.requires.0 c.requires.1 c.index-rows-from.is
+returns g c = row_from g.V.Value.bytes c.args.rows.now c.args.from _ c.requires.0 c.requires.1 c.index-rows-from.is

@@ -7,11 +7,11 @@ use Rattle.rows.specs.Meaning.{setting_of, record_of, party_of, suggest_of, prop
 use Rattle.posting.proofs.Steps.{takes_same, takes_before, takes_after, does_same, does_nothing, does_both, steps_fit}
 use Rattle.party.proofs.ByKind.{kind_1, kind_2, kind_3, kind_4, kind_5_to_7, kind_8, kind_9, kind_10, kind_11}
 use Rattle.party.proofs.step.by_kind.Goals as goal
-use Rattle.party.proofs.step.by_kind.Goals.{in-default-via-then-m-lt1, in-default-via-else-m-lt1+else-m-lt8}
+use Rattle.party.proofs.step.by_kind.Goals.{in_default-via-then-m-lt1, in_default-via-else-m-lt1+else-m-lt8}
 
-pub on-request-requires : goal.on-request-requires
-on-request-requires g c =
-    let v = g.row.V-Value in
+pub on_request-requires : goal.on_request-requires
+on_request-requires g c =
+    let v = g.V.Value in
     let s = setting_of v.width v.allows c.args.seat in
     let me = c.args.seat.me in
     let own = c.args.own.now in
@@ -22,7 +22,7 @@ on-request-requires g c =
 
 pub returns-in-1 : goal.returns-in-1
 returns-in-1 g c =
-    let v = g.row.V-Value in
+    let v = g.V.Value in
     let s = setting_of v.width v.allows c.args.seat in
     let me = c.args.seat.me in
     let own = c.args.own.now in
@@ -31,9 +31,9 @@ returns-in-1 g c =
     let k : m.kind ≡ 1 = omega (arith, c.requires.whole.3, c.requires.whole.4) in
     does_same _ _ _ (sym (kind_1 s me p m k)) c.on_request.ensures
 
-pub on-suggest-requires : goal.on-suggest-requires
-on-suggest-requires g c =
-    let v = g.row.V-Value in
+pub on_suggest-requires : goal.on_suggest-requires
+on_suggest-requires g c =
+    let v = g.V.Value in
     let s = setting_of v.width v.allows c.args.seat in
     let me = c.args.seat.me in
     let own = c.args.own.now in
@@ -44,7 +44,7 @@ on-suggest-requires g c =
 
 pub returns-in-2 : goal.returns-in-2
 returns-in-2 g c =
-    let v = g.row.V-Value in
+    let v = g.V.Value in
     let s = setting_of v.width v.allows c.args.seat in
     let me = c.args.seat.me in
     let own = c.args.own.now in
@@ -53,9 +53,9 @@ returns-in-2 g c =
     let k : m.kind ≡ 2 = omega (arith, c.requires.whole.3, c.requires.whole.4) in
     does_same _ _ _ (sym (kind_2 s me p m k)) c.on_suggest.ensures
 
-pub on-proof-requires : goal.on-proof-requires
-on-proof-requires g c =
-    let v = g.row.V-Value in
+pub on_proof-requires : goal.on_proof-requires
+on_proof-requires g c =
+    let v = g.V.Value in
     let s = setting_of v.width v.allows c.args.seat in
     let me = c.args.seat.me in
     let own = c.args.own.now in
@@ -66,7 +66,7 @@ on-proof-requires g c =
 
 pub returns-in-3 : goal.returns-in-3
 returns-in-3 g c =
-    let v = g.row.V-Value in
+    let v = g.V.Value in
     let s = setting_of v.width v.allows c.args.seat in
     let me = c.args.seat.me in
     let own = c.args.own.now in
@@ -75,9 +75,9 @@ returns-in-3 g c =
     let k : m.kind ≡ 3 = omega (arith, c.requires.whole.3, c.requires.whole.4) in
     does_same _ _ _ (sym (kind_3 s me p m k)) c.on_proof.ensures
 
-pub on-propose-requires : goal.on-propose-requires
-on-propose-requires g c =
-    let v = g.row.V-Value in
+pub on_propose-requires : goal.on_propose-requires
+on_propose-requires g c =
+    let v = g.V.Value in
     let s = setting_of v.width v.allows c.args.seat in
     let me = c.args.seat.me in
     let own = c.args.own.now in
@@ -88,7 +88,7 @@ on-propose-requires g c =
 
 pub returns-in-4 : goal.returns-in-4
 returns-in-4 g c =
-    let v = g.row.V-Value in
+    let v = g.V.Value in
     let s = setting_of v.width v.allows c.args.seat in
     let me = c.args.seat.me in
     let own = c.args.own.now in
@@ -97,9 +97,9 @@ returns-in-4 g c =
     let k : m.kind ≡ 4 = omega (arith, c.requires.whole.3, c.requires.whole.4) in
     does_same _ _ _ (sym (kind_4 s me p m k)) c.on_propose.ensures
 
-pub on-vote-requires : goal.on-vote-requires
-on-vote-requires g c =
-    let v = g.row.V-Value in
+pub on_vote-requires : goal.on_vote-requires
+on_vote-requires g c =
+    let v = g.V.Value in
     let s = setting_of v.width v.allows c.args.seat in
     let me = c.args.seat.me in
     let own = c.args.own.now in
@@ -111,7 +111,7 @@ on-vote-requires g c =
 
 pub returns-in-5-to-7 : goal.returns-in-5-to-7
 returns-in-5-to-7 g c =
-    let v = g.row.V-Value in
+    let v = g.V.Value in
     let s = setting_of v.width v.allows c.args.seat in
     let me = c.args.seat.me in
     let own = c.args.own.now in
@@ -121,9 +121,9 @@ returns-in-5-to-7 g c =
     let high : m.kind ≤ 7 = omega arith in
     does_same _ _ _ (sym (kind_5_to_7 s me p m low high)) c.on_vote.ensures
 
-pub on-key3-requires : goal.on-key3-requires
-on-key3-requires g c =
-    let v = g.row.V-Value in
+pub on_key3-requires : goal.on_key3-requires
+on_key3-requires g c =
+    let v = g.V.Value in
     let s = setting_of v.width v.allows c.args.seat in
     let me = c.args.seat.me in
     let own = c.args.own.now in
@@ -134,18 +134,18 @@ on-key3-requires g c =
 
 pub returns-in-8 : goal.returns-in-8
 returns-in-8 g c =
-    let v = g.row.V-Value in
+    let v = g.V.Value in
     let s = setting_of v.width v.allows c.args.seat in
     let me = c.args.seat.me in
     let own = c.args.own.now in
     let p = party_of v.bytes own c.args.rows.now in
     let m = message v.bytes c.args.m.now in
     let k : m.kind ≡ 8 = omega (arith, c.requires.whole.3, c.requires.whole.4) in
-    does_same _ _ _ (sym (kind_8 s me p m k)) c.on-key3.ensures
+    does_same _ _ _ (sym (kind_8 s me p m k)) c.on_key3.ensures
 
-pub on-lock-requires : goal.on-lock-requires
-on-lock-requires g c =
-    let v = g.row.V-Value in
+pub on_lock-requires : goal.on_lock-requires
+on_lock-requires g c =
+    let v = g.V.Value in
     let s = setting_of v.width v.allows c.args.seat in
     let me = c.args.seat.me in
     let own = c.args.own.now in
@@ -156,7 +156,7 @@ on-lock-requires g c =
 
 pub returns-in-9 : goal.returns-in-9
 returns-in-9 g c =
-    let v = g.row.V-Value in
+    let v = g.V.Value in
     let s = setting_of v.width v.allows c.args.seat in
     let me = c.args.seat.me in
     let own = c.args.own.now in
@@ -165,9 +165,9 @@ returns-in-9 g c =
     let k : m.kind ≡ 9 = omega (arith, c.requires.whole.3, c.requires.whole.4) in
     does_same _ _ _ (sym (kind_9 s me p m k)) c.on_lock.ensures
 
-pub on-done-requires : goal.on-done-requires
-on-done-requires g c =
-    let v = g.row.V-Value in
+pub on_done-requires : goal.on_done-requires
+on_done-requires g c =
+    let v = g.V.Value in
     let s = setting_of v.width v.allows c.args.seat in
     let me = c.args.seat.me in
     let own = c.args.own.now in
@@ -178,7 +178,7 @@ on-done-requires g c =
 
 pub returns-in-10 : goal.returns-in-10
 returns-in-10 g c =
-    let v = g.row.V-Value in
+    let v = g.V.Value in
     let s = setting_of v.width v.allows c.args.seat in
     let me = c.args.seat.me in
     let own = c.args.own.now in
@@ -187,9 +187,9 @@ returns-in-10 g c =
     let k : m.kind ≡ 10 = omega (arith, c.requires.whole.3, c.requires.whole.4) in
     does_same _ _ _ (sym (kind_10 s me p m k)) c.on_done.ensures
 
-pub on-abort-requires : goal.on-abort-requires
-on-abort-requires g c =
-    let v = g.row.V-Value in
+pub on_abort-requires : goal.on_abort-requires
+on_abort-requires g c =
+    let v = g.V.Value in
     let s = setting_of v.width v.allows c.args.seat in
     let me = c.args.seat.me in
     let own = c.args.own.now in
@@ -197,12 +197,12 @@ on-abort-requires g c =
     let m = message v.bytes c.args.m.now in
     let low = c.requires.whole.3 in
     let high = c.requires.whole.4 in
-    let k : m.kind ≡ 11 = elim c.in-default.branch [ in-default-via-then-m-lt1 w ↦ omega (arith, low, high) | in-default-via-else-m-lt1+else-m-lt8 w ↦ omega (arith, low, high) ] in
+    let k : m.kind ≡ 11 = elim c.in_default.branch [ in_default-via-then-m-lt1 w ↦ omega (arith, low, high) | in_default-via-else-m-lt1+else-m-lt8 w ↦ omega (arith, low, high) ] in
     record { whole = (c.requires.whole.0, c.requires.whole.1, c.requires.whole.2); taken = takes_same _ _ (kind_11 s me p m k) c.requires.taken }
 
-pub returns-in-default : goal.returns-in-default
-returns-in-default g c =
-    let v = g.row.V-Value in
+pub returns-in_default : goal.returns-in_default
+returns-in_default g c =
+    let v = g.V.Value in
     let s = setting_of v.width v.allows c.args.seat in
     let me = c.args.seat.me in
     let own = c.args.own.now in
@@ -210,5 +210,5 @@ returns-in-default g c =
     let m = message v.bytes c.args.m.now in
     let low = c.requires.whole.3 in
     let high = c.requires.whole.4 in
-    let k : m.kind ≡ 11 = elim c.in-default.branch [ in-default-via-then-m-lt1 w ↦ omega (arith, low, high) | in-default-via-else-m-lt1+else-m-lt8 w ↦ omega (arith, low, high) ] in
+    let k : m.kind ≡ 11 = elim c.in_default.branch [ in_default-via-then-m-lt1 w ↦ omega (arith, low, high) | in_default-via-else-m-lt1+else-m-lt8 w ↦ omega (arith, low, high) ] in
     does_same _ _ _ (sym (kind_11 s me p m k)) c.on_abort.ensures

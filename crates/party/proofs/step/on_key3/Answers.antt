@@ -7,9 +7,9 @@ use Rattle.rows.specs.Meaning.{setting_of, record_of, party_of, suggest_of, prop
 use Rattle.posting.proofs.Steps.{takes_same, takes_before, takes_after, does_same, does_nothing, does_both, steps_fit}
 use Rattle.party.proofs.step.on_key3.Goals as goal
 
-pub on-vote-votes-requires : goal.on-vote-votes-requires
-on-vote-votes-requires g c =
-    let v = g.row.V-Value in
+pub on_vote-votes-requires : goal.on_vote-votes-requires
+on_vote-votes-requires g c =
+    let v = g.V.Value in
     let s = setting_of v.width v.allows c.args.seat in
     let me = c.args.seat.me in
     let own = c.args.own.now in
@@ -20,9 +20,9 @@ on-vote-votes-requires g c =
       taken = takes_before (on_vote s me p m) (wake s me) c.requires.taken;
     }
 
-pub wake-proposal-echoes-requires : goal.wake-proposal-echoes-requires
-wake-proposal-echoes-requires g c =
-    let v = g.row.V-Value in
+pub wake_proposal-echoes-requires : goal.wake_proposal-echoes-requires
+wake_proposal-echoes-requires g c =
+    let v = g.V.Value in
     let s = setting_of v.width v.allows c.args.seat in
     let me = c.args.seat.me in
     let own = c.args.own.now in
@@ -30,25 +30,25 @@ wake-proposal-echoes-requires g c =
     let m = message v.bytes c.args.m.now in
     record {
       whole = (omega (arith, c.requires.whole.0), ap (λ k. eqb k 3 || eqb k 8) c.requires.whole.3);
-      taken = takes_after (on_vote s me p m) (wake s me) _ c.requires.taken c.on-vote-votes.ensures;
+      taken = takes_after (on_vote s me p m) (wake s me) _ c.requires.taken c.on_vote-votes.ensures;
     }
 
-pub overflow-add-result : goal.overflow-add-result
-overflow-add-result g c =
-    let v = g.row.V-Value in
+pub overflow_add-result : goal.overflow_add-result
+overflow_add-result g c =
+    let v = g.V.Value in
     let s = setting_of v.width v.allows c.args.seat in
     let me = c.args.seat.me in
     let own = c.args.own.now in
     let p = party_of v.bytes own c.args.rows.now in
     let m = message v.bytes c.args.m.now in
-    omega (arith, steps_fit (on_vote s me p m) (wake s me) _ _ c.requires.taken c.on-vote-votes.ensures c.wake-proposal-echoes.ensures)
+    omega (arith, steps_fit (on_vote s me p m) (wake s me) _ _ c.requires.taken c.on_vote-votes.ensures c.wake_proposal-echoes.ensures)
 
 pub returns : goal.returns
 returns g c =
-    let v = g.row.V-Value in
+    let v = g.V.Value in
     let s = setting_of v.width v.allows c.args.seat in
     let me = c.args.seat.me in
     let own = c.args.own.now in
     let p = party_of v.bytes own c.args.rows.now in
     let m = message v.bytes c.args.m.now in
-    does_both (on_vote s me p m) (wake s me) _ _ c.on-vote-votes.ensures c.wake-proposal-echoes.ensures
+    does_both (on_vote s me p m) (wake s me) _ _ c.on_vote-votes.ensures c.wake_proposal-echoes.ensures

@@ -9,9 +9,9 @@ use Rattle.rows.specs.Meaning.{setting_of, party_of}
 use Rattle.posting.proofs.Within.{all_values, takes_own, kind-low, kind-high}
 use Rattle.party.proofs.step.step.Goals as goal
 
-pub take-in-requires : goal.take-in-requires
-take-in-requires g c =
-    let v = g.row.V-Value in
+pub take_in-requires : goal.take_in-requires
+take_in-requires g c =
+    let v = g.V.Value in
     let laws = g.met.V.Value in
     let s = setting_of v.width v.allows c.args.seat in
     let me = c.args.seat.me in
@@ -28,7 +28,7 @@ take-in-requires g c =
 
 pub returns : goal.returns
 returns g c =
-    let v = g.row.V-Value in
+    let v = g.V.Value in
     let laws = g.met.V.Value in
     let s = setting_of v.width v.allows c.args.seat in
     let me = c.args.seat.me in
@@ -39,6 +39,6 @@ returns g c =
     let fits : Fits v.valid s p = record { numbers = c.requires.fits; values = all_values v.bytes v.valid v.width laws.sized laws.sound own c.args.rows.now n } in
     let m = message v.bytes c.args.m.now in
     record {
-      step = c.take-in.ensures;
-      fits = ap (party_fits n) c.take-in.ensures.party ∙ (bounds_kept.by_message v.valid s me p m seated fits c.requires.proper).numbers;
+      step = c.take_in.ensures;
+      fits = ap (party_fits n) c.take_in.ensures.party ∙ (bounds_kept.by_message v.valid s me p m seated fits c.requires.proper).numbers;
     }

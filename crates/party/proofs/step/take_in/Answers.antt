@@ -8,9 +8,9 @@ use Rattle.posting.proofs.Steps.{takes_same, takes_before, takes_after, does_sam
 use Rattle.party.proofs.ByKind.{step-heeded, step_ignored, propose_first}
 use Rattle.party.proofs.step.take_in.Goals as goal
 
-pub by-kind-requires : goal.by-kind-requires
-by-kind-requires g c =
-    let v = g.row.V-Value in
+pub by_kind-requires : goal.by_kind-requires
+by_kind-requires g c =
+    let v = g.V.Value in
     let s = setting_of v.width v.allows c.args.seat in
     let me = c.args.seat.me in
     let own = c.args.own.now in
@@ -23,17 +23,17 @@ by-kind-requires g c =
 
 pub returns-then-heeds : goal.returns-then-heeds
 returns-then-heeds g c =
-    let v = g.row.V-Value in
+    let v = g.V.Value in
     let s = setting_of v.width v.allows c.args.seat in
     let me = c.args.seat.me in
     let own = c.args.own.now in
     let p = party_of v.bytes own c.args.rows.now in
     let m = message v.bytes c.args.m.now in
-    does_same _ _ _ (sym (step-heeded s me p m c.if-heeds.ensures)) c.by-kind.ensures
+    does_same _ _ _ (sym (step-heeded s me p m c.if-heeds.ensures)) c.by_kind.ensures
 
 pub returns-else-heeds : goal.returns-else-heeds
 returns-else-heeds g c =
-    let v = g.row.V-Value in
+    let v = g.V.Value in
     let s = setting_of v.width v.allows c.args.seat in
     let me = c.args.seat.me in
     let own = c.args.own.now in

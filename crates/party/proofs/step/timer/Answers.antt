@@ -9,9 +9,9 @@ use Rattle.rows.specs.Meaning.{setting_of, party_of}
 use Rattle.posting.proofs.Within.{all_values, takes_own, kind-low, kind-high}
 use Rattle.party.proofs.step.timer.Goals as goal
 
-pub on-time-out-requires : goal.on-time-out-requires
-on-time-out-requires g c =
-    let v = g.row.V-Value in
+pub on_time_out-requires : goal.on_time_out-requires
+on_time_out-requires g c =
+    let v = g.V.Value in
     let laws = g.met.V.Value in
     let s = setting_of v.width v.allows c.args.seat in
     let me = c.args.seat.me in
@@ -27,7 +27,7 @@ on-time-out-requires g c =
 
 pub returns : goal.returns
 returns g c =
-    let v = g.row.V-Value in
+    let v = g.V.Value in
     let laws = g.met.V.Value in
     let s = setting_of v.width v.allows c.args.seat in
     let me = c.args.seat.me in
@@ -37,6 +37,6 @@ returns g c =
     let seated : Seated v.valid s me = record { blank = laws.blank_valid; size = c.args.seat.most; low = c.args.seat.first; high = c.args.seat.last } in
     let fits : Fits v.valid s p = record { numbers = c.requires.fits; values = all_values v.bytes v.valid v.width laws.sized laws.sound own c.args.rows.now n } in
     record {
-      step = c.on-time-out.ensures;
-      fits = ap (party_fits n) c.on-time-out.ensures.party ∙ (bounds_kept.by_timer v.valid s me p seated fits c.requires.early).numbers;
+      step = c.on_time_out.ensures;
+      fits = ap (party_fits n) c.on_time_out.ensures.party ∙ (bounds_kept.by_timer v.valid s me p seated fits c.requires.early).numbers;
     }

@@ -7,38 +7,38 @@ use Rattle.rows.proofs.Senders.{row_read}
 use Rattle.posting.specs.Posting.{Posted, addressed, goes}
 use Rattle.posting.proofs.Lists.{takes_next, posted_more, posted_same, posted_start}
 use Rattle.posting.proofs.post.post_each.Goals as goal
-use Rattle.posting.proofs.post.post_each.Goals.{then-goes-to, else-goes-to}
+use Rattle.posting.proofs.post.post_each.Goals.{then-goes_to, else-goes_to}
 
 pub loop-i-init : goal.loop-i-init
 loop-i-init g c = (omega arith, posted_start _ _ _ _)
 
-pub post-one-posts-requires : goal.post-one-posts-requires
-post-one-posts-requires g c =
-    let b = g.row.V-Value.bytes in
+pub post_one-posts-requires : goal.post_one-posts-requires
+post_one-posts-requires g c =
+    let b = g.V.Value.bytes in
     let rs = c.args.rows.now in
     let h : c.loop-i.i < c.args.seat.n = omega (arith, c.requires.whole) in
     let h' : c.loop-i.i < length rs = omega (arith, c.requires.whole) in
-    takes_next (λ j. goes c.args.whom (rows_of b rs j)) (addressed (message b c.args.m.now)) g.row.V-Value.valid g.row.V-Value.width _ _ _ _ c.loop-i.i c.args.seat.n c.requires.taken h
-    (ap (goes c.args.whom) (row_read b rs c.loop-i.i _ h' c.index-rows-i.is) ∙ sym c.if-goes-to.ensures) c.loop-i.invariant.1.list c.loop-i.invariant.1.kept
+    takes_next (λ j. goes c.args.whom (rows_of b rs j)) (addressed (message b c.args.m.now)) g.V.Value.valid g.V.Value.width _ _ _ _ c.loop-i.i c.args.seat.n c.requires.taken h
+    (ap (goes c.args.whom) (row_read b rs c.loop-i.i _ h' c.index-rows-i.is) ∙ sym c.if-goes_to.ensures) c.loop-i.invariant.1.list c.loop-i.invariant.1.kept
 
 pub loop-i-preserved : goal.loop-i-preserved
 loop-i-preserved g c =
-    let b = g.row.V-Value.bytes in
+    let b = g.V.Value.bytes in
     let x = g.W.Wire in
     let rs = c.args.rows.now in
     let h : c.loop-i.i < length rs = omega (arith, c.requires.whole) in
     let who : ℕ → Bool = λ j. goes c.args.whom (rows_of b rs j) in
     let what : ℕ → Msg = addressed (message b c.args.m.now) in
     let read = ap (goes c.args.whom) (row_read b rs c.loop-i.i _ h c.index-rows-i.is) in
-    let after : g.row.W.Denot → Type 0 = λ y. Posted (x.waiting c.args.w.now) (x.waiting y) (x.capacity c.args.w.now) (x.capacity y) c.if-goes-to.posts (to_each who what (c.loop-i.i + 1)) in
-    elim c.if-goes-to.branch [
-      | then-goes-to w ↦ (omega (arith, w.posts-is, c.loop-i.invariant.0, w.post-one-posts.ensures.answer), subst after (sym w.w-is) (posted_more who what _ _ _ _ _ _ _ _ _ c.loop-i.i c.loop-i.invariant.1 w.post-one-posts.ensures (read ∙ sym w.if-goes-to.ensures) w.posts-is))
-      | else-goes-to w ↦ (omega (arith, w.posts-is, c.loop-i.invariant.0), subst after (sym w.w-is) (posted_same who what _ _ _ _ _ _ c.loop-i.i c.loop-i.invariant.1 (read ∙ sym w.if-goes-to.ensures) w.posts-is))
+    let after : g.row.W.Denot → Type 0 = λ y. Posted (x.waiting c.args.w.now) (x.waiting y) (x.capacity c.args.w.now) (x.capacity y) c.if-goes_to.posts (to_each who what (c.loop-i.i + 1)) in
+    elim c.if-goes_to.branch [
+      | then-goes_to w ↦ (omega (arith, w.posts-is, c.loop-i.invariant.0, w.post_one-posts.ensures.answer), subst after (sym w.w-is) (posted_more who what _ _ _ _ _ _ _ _ _ c.loop-i.i c.loop-i.invariant.1 w.post_one-posts.ensures (read ∙ sym w.if-goes_to.ensures) w.posts-is))
+      | else-goes_to w ↦ (omega (arith, w.posts-is, c.loop-i.invariant.0), subst after (sym w.w-is) (posted_same who what _ _ _ _ _ _ c.loop-i.i c.loop-i.invariant.1 (read ∙ sym w.if-goes_to.ensures) w.posts-is))
     ]
 
 pub returns : goal.returns
 returns g c =
-    let b = g.row.V-Value.bytes in
+    let b = g.V.Value.bytes in
     let x = g.W.Wire in
     let rs = c.args.rows.now in
     let who : ℕ → Bool = λ j. goes c.args.whom (rows_of b rs j) in

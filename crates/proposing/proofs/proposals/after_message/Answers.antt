@@ -9,10 +9,10 @@ use Rattle.proposing.proofs.proposals.after_message.Goals as goal
 
 pub returns : goal.returns
 returns g c =
-    let v = g.row.V-Value in
+    let v = g.V.Value in
     let s = setting_of v.width v.allows c.args.seat in
     let me = c.args.seat.me in
     let own = c.args.own.now in
     let p = party_of v.bytes own c.args.rows.now in
     let m = message v.bytes c.args.m.now in
-    same_next s me p m _ _ _ _ c.next-proposal.ensures c.echoes-now-echoes.ensures c.waits-now-waits.ensures c.freed-now-freed.ensures
+    same_next s me p m _ _ _ _ c.next_proposal.ensures c.echoes_now-echoes.ensures c.waits_now-waits.ensures c.freed_now-freed.ensures

@@ -7,17 +7,17 @@ use Rattle.proposing.specs.Proposals.{next_state, next_of, take_up, settled}
 use Rattle.proposing.proofs.Settled.{settled-still, settled-taken, settled-propose, settled-wake, proof-told, same_next}
 use Rattle.proposing.proofs.proposals.on_proof.Goals as goal
 
-pub wake-proposal-requires : goal.wake-proposal-requires
-wake-proposal-requires g c =
-    let v = g.row.V-Value in
+pub wake_proposal-requires : goal.wake_proposal-requires
+wake_proposal-requires g c =
+    let v = g.V.Value in
     let s = setting_of v.width v.allows c.args.seat in
     let me = c.args.seat.me in
     let own = c.args.own.now in
     let p = party_of v.bytes own c.args.rows.now in
     let m = message v.bytes c.args.m.now in
     let with_rows : (ℕ → Row) → Party = λ t. record { rec = record_of v.bytes own; rows = t } in
-    let q = party_of v.bytes own c.note-proof.new.rows in
-    let way = proof-told s me p m q (ap with_rows c.note-proof.ensures) in
+    let q = party_of v.bytes own c.note_proof.new.rows in
+    let way = proof-told s me p m q (ap with_rows c.note_proof.ensures) in
     record {
       whole = (omega (arith, c.requires.whole.0), ap (λ k. eqb k 3 || eqb k 8) c.requires.whole.3);
       taken = takes_same _ _ way c.requires.taken;
@@ -25,13 +25,13 @@ wake-proposal-requires g c =
 
 pub returns : goal.returns
 returns g c =
-    let v = g.row.V-Value in
+    let v = g.V.Value in
     let s = setting_of v.width v.allows c.args.seat in
     let me = c.args.seat.me in
     let own = c.args.own.now in
     let p = party_of v.bytes own c.args.rows.now in
     let m = message v.bytes c.args.m.now in
     let with_rows : (ℕ → Row) → Party = λ t. record { rec = record_of v.bytes own; rows = t } in
-    let q = party_of v.bytes own c.note-proof.new.rows in
-    let way = proof-told s me p m q (ap with_rows c.note-proof.ensures) in
+    let q = party_of v.bytes own c.note_proof.new.rows in
+    let way = proof-told s me p m q (ap with_rows c.note_proof.ensures) in
     does_same _ _ _ (sym way) c.wake_proposal.ensures

@@ -9,7 +9,7 @@ use Rattle.proposing.proofs.proposals.on_propose.Goals as goal
 
 pub settle-requires : goal.settle-requires
 settle-requires g c =
-    let v = g.row.V-Value in
+    let v = g.V.Value in
     let s = setting_of v.width v.allows c.args.seat in
     let me = c.args.seat.me in
     let own = c.args.own.now in
@@ -22,7 +22,7 @@ settle-requires g c =
 
 pub returns : goal.returns
 returns g c =
-    let v = g.row.V-Value in
+    let v = g.V.Value in
     let s = setting_of v.width v.allows c.args.seat in
     let me = c.args.seat.me in
     let own = c.args.own.now in

@@ -9,16 +9,16 @@ use Rattle.proposing.proofs.proposals.take_state.Goals as goal
 
 pub returns-in-Echoed : goal.returns-in-Echoed
 returns-in-Echoed g c =
-    let v = g.row.V-Value in
+    let v = g.V.Value in
     let s = setting_of v.width v.allows c.args.seat in
     let me = c.args.seat.me in
     let own = c.args.own.now in
     let p = party_of v.bytes own c.args.rows.now in
-    does_same _ _ _ (sym (ap (λ t. take_up s me p (proposal_of v.bytes t)) c.in-Echoed.is)) (record { party = refl; posts = c.make-vote-posts.ensures })
+    does_same _ _ _ (sym (ap (λ t. take_up s me p (proposal_of v.bytes t)) c.in-Echoed.is)) (record { party = refl; posts = c.make_vote-posts.ensures })
 
 pub returns-in-Nothing : goal.returns-in-Nothing
 returns-in-Nothing g c =
-    let v = g.row.V-Value in
+    let v = g.V.Value in
     let s = setting_of v.width v.allows c.args.seat in
     let me = c.args.seat.me in
     let own = c.args.own.now in
@@ -27,7 +27,7 @@ returns-in-Nothing g c =
 
 pub returns-in-Waiting : goal.returns-in-Waiting
 returns-in-Waiting g c =
-    let v = g.row.V-Value in
+    let v = g.V.Value in
     let s = setting_of v.width v.allows c.args.seat in
     let me = c.args.seat.me in
     let own = c.args.own.now in
@@ -36,7 +36,7 @@ returns-in-Waiting g c =
 
 pub returns-in-Dropped : goal.returns-in-Dropped
 returns-in-Dropped g c =
-    let v = g.row.V-Value in
+    let v = g.V.Value in
     let s = setting_of v.width v.allows c.args.seat in
     let me = c.args.seat.me in
     let own = c.args.own.now in

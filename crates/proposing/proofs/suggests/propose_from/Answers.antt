@@ -7,9 +7,9 @@ use Rattle.rows.specs.Meaning.{setting_of, record_of, party_of, suggest_of, prop
 use Rattle.posting.proofs.Steps.{takes_same, takes_before, takes_after, does_same, does_nothing, does_both, steps_fit}
 use Rattle.proposing.proofs.suggests.propose_from.Goals as goal
 
-pub make-propose-posts-requires : goal.make-propose-posts-requires
-make-propose-posts-requires g c =
-    let v = g.row.V-Value in
+pub make_propose-posts-requires : goal.make_propose-posts-requires
+make_propose-posts-requires g c =
+    let v = g.V.Value in
     let s = setting_of v.width v.allows c.args.seat in
     let me = c.args.seat.me in
     let own = c.args.own.now in
@@ -18,16 +18,16 @@ make-propose-posts-requires g c =
 
 pub returns-in-Some : goal.returns-in-Some
 returns-in-Some g c =
-    let v = g.row.V-Value in
+    let v = g.V.Value in
     let s = setting_of v.width v.allows c.args.seat in
     let me = c.args.seat.me in
     let own = c.args.own.now in
     let p = party_of v.bytes own c.args.rows.now in
-    does_same _ _ _ (sym (ap (λ t. propose s me p (option_map (suggest_of v.bytes) t)) c.in-Some.is)) (record { party = refl; posts = c.make-propose-posts.ensures })
+    does_same _ _ _ (sym (ap (λ t. propose s me p (option_map (suggest_of v.bytes) t)) c.in-Some.is)) (record { party = refl; posts = c.make_propose-posts.ensures })
 
 pub returns-in-None : goal.returns-in-None
 returns-in-None g c =
-    let v = g.row.V-Value in
+    let v = g.V.Value in
     let s = setting_of v.width v.allows c.args.seat in
     let me = c.args.seat.me in
     let own = c.args.own.now in

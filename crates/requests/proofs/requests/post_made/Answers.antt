@@ -10,9 +10,9 @@ use Rattle.posting.proofs.Steps.{takes_same, does_same, does_nothing}
 use Rattle.requests.proofs.Ways.{made_as, request_answered, request_noted}
 use Rattle.requests.proofs.requests.post_made.Goals as goal
 
-pub post-one-proofs-requires : goal.post-one-proofs-requires
-post-one-proofs-requires g c =
-    let v = g.row.V-Value in
+pub post_one-proofs-requires : goal.post_one-proofs-requires
+post_one-proofs-requires g c =
+    let v = g.V.Value in
     let s = setting_of v.width v.allows c.args.seat in
     let me = c.args.seat.me in
     let own = c.args.own.now in
@@ -23,12 +23,12 @@ post-one-proofs-requires g c =
     let zs = made_echo s me own.view r.proposal to in
     let us = made_vote s me 6 r to ++ (made_vote s me 7 r to ++ (made_vote s me 8 r to ++ made_vote s me 9 r to)) in
     let t = takes_list _ (xs ++ (ys ++ (zs ++ us))) (made_as s me r to) c.requires in
-    let same = ap (λ x. x ∷ []) c.proof-letter-m.ensures in
+    let same = ap (λ x. x ∷ []) c.proof_letter-m.ensures in
     takes_list xs _ (sym same) (takes_first _ _ _ _ xs (ys ++ (zs ++ us)) (t))
 
-pub post-offer-offers-requires : goal.post-offer-offers-requires
-post-offer-offers-requires g c =
-    let v = g.row.V-Value in
+pub post_offer-offers-requires : goal.post_offer-offers-requires
+post_offer-offers-requires g c =
+    let v = g.V.Value in
     let s = setting_of v.width v.allows c.args.seat in
     let me = c.args.seat.me in
     let own = c.args.own.now in
@@ -39,13 +39,13 @@ post-offer-offers-requires g c =
     let zs = made_echo s me own.view r.proposal to in
     let us = made_vote s me 6 r to ++ (made_vote s me 7 r to ++ (made_vote s me 8 r to ++ made_vote s me 9 r to)) in
     let t = takes_list _ (xs ++ (ys ++ (zs ++ us))) (made_as s me r to) c.requires in
-    let same = ap (λ x. x ∷ []) c.proof-letter-m.ensures in
-    let proofs = posted-list _ xs same c.post-one-proofs.ensures in
+    let same = ap (λ x. x ∷ []) c.proof_letter-m.ensures in
+    let proofs = posted-list _ xs same c.post_one-proofs.ensures in
     takes_first _ _ _ _ ys (zs ++ us) (takes_rest _ _ _ _ _ _ xs (ys ++ (zs ++ us)) (t) proofs.list proofs.kept)
 
-pub post-echo-echoes-requires : goal.post-echo-echoes-requires
-post-echo-echoes-requires g c =
-    let v = g.row.V-Value in
+pub post_echo-echoes-requires : goal.post_echo-echoes-requires
+post_echo-echoes-requires g c =
+    let v = g.V.Value in
     let s = setting_of v.width v.allows c.args.seat in
     let me = c.args.seat.me in
     let own = c.args.own.now in
@@ -56,13 +56,13 @@ post-echo-echoes-requires g c =
     let zs = made_echo s me own.view r.proposal to in
     let us = made_vote s me 6 r to ++ (made_vote s me 7 r to ++ (made_vote s me 8 r to ++ made_vote s me 9 r to)) in
     let t = takes_list _ (xs ++ (ys ++ (zs ++ us))) (made_as s me r to) c.requires in
-    let same = ap (λ x. x ∷ []) c.proof-letter-m.ensures in
-    let proofs = posted-list _ xs same c.post-one-proofs.ensures in
-    takes_first _ _ _ _ zs us (takes_rest _ _ _ _ _ _ ys (zs ++ us) (takes_rest _ _ _ _ _ _ xs (ys ++ (zs ++ us)) (t) proofs.list proofs.kept) c.post-offer-offers.ensures.list c.post-offer-offers.ensures.kept)
+    let same = ap (λ x. x ∷ []) c.proof_letter-m.ensures in
+    let proofs = posted-list _ xs same c.post_one-proofs.ensures in
+    takes_first _ _ _ _ zs us (takes_rest _ _ _ _ _ _ ys (zs ++ us) (takes_rest _ _ _ _ _ _ xs (ys ++ (zs ++ us)) (t) proofs.list proofs.kept) c.post_offer-offers.ensures.list c.post_offer-offers.ensures.kept)
 
-pub post-votes-votes-requires : goal.post-votes-votes-requires
-post-votes-votes-requires g c =
-    let v = g.row.V-Value in
+pub post_votes-votes-requires : goal.post_votes-votes-requires
+post_votes-votes-requires g c =
+    let v = g.V.Value in
     let s = setting_of v.width v.allows c.args.seat in
     let me = c.args.seat.me in
     let own = c.args.own.now in
@@ -73,13 +73,13 @@ post-votes-votes-requires g c =
     let zs = made_echo s me own.view r.proposal to in
     let us = made_vote s me 6 r to ++ (made_vote s me 7 r to ++ (made_vote s me 8 r to ++ made_vote s me 9 r to)) in
     let t = takes_list _ (xs ++ (ys ++ (zs ++ us))) (made_as s me r to) c.requires in
-    let same = ap (λ x. x ∷ []) c.proof-letter-m.ensures in
-    let proofs = posted-list _ xs same c.post-one-proofs.ensures in
-    takes_rest _ _ _ _ _ _ zs us (takes_rest _ _ _ _ _ _ ys (zs ++ us) (takes_rest _ _ _ _ _ _ xs (ys ++ (zs ++ us)) (t) proofs.list proofs.kept) c.post-offer-offers.ensures.list c.post-offer-offers.ensures.kept) c.post-echo-echoes.ensures.list c.post-echo-echoes.ensures.kept
+    let same = ap (λ x. x ∷ []) c.proof_letter-m.ensures in
+    let proofs = posted-list _ xs same c.post_one-proofs.ensures in
+    takes_rest _ _ _ _ _ _ zs us (takes_rest _ _ _ _ _ _ ys (zs ++ us) (takes_rest _ _ _ _ _ _ xs (ys ++ (zs ++ us)) (t) proofs.list proofs.kept) c.post_offer-offers.ensures.list c.post_offer-offers.ensures.kept) c.post_echo-echoes.ensures.list c.post_echo-echoes.ensures.kept
 
-pub overflow-add-result : goal.overflow-add-result
-overflow-add-result g c =
-    let v = g.row.V-Value in
+pub overflow_add-result : goal.overflow_add-result
+overflow_add-result g c =
+    let v = g.V.Value in
     let s = setting_of v.width v.allows c.args.seat in
     let me = c.args.seat.me in
     let own = c.args.own.now in
@@ -90,13 +90,13 @@ overflow-add-result g c =
     let zs = made_echo s me own.view r.proposal to in
     let us = made_vote s me 6 r to ++ (made_vote s me 7 r to ++ (made_vote s me 8 r to ++ made_vote s me 9 r to)) in
     let t = takes_list _ (xs ++ (ys ++ (zs ++ us))) (made_as s me r to) c.requires in
-    let same = ap (λ x. x ∷ []) c.proof-letter-m.ensures in
-    let proofs = posted-list _ xs same c.post-one-proofs.ensures in
-    omega (arith, four_fit xs ys zs us _ _ _ _ t proofs.answer c.post-offer-offers.ensures.answer c.post-echo-echoes.ensures.answer c.post-votes-votes.ensures.answer)
+    let same = ap (λ x. x ∷ []) c.proof_letter-m.ensures in
+    let proofs = posted-list _ xs same c.post_one-proofs.ensures in
+    omega (arith, four_fit xs ys zs us _ _ _ _ t proofs.answer c.post_offer-offers.ensures.answer c.post_echo-echoes.ensures.answer c.post_votes-votes.ensures.answer)
 
-pub overflow-add-result-2 : goal.overflow-add-result-2
-overflow-add-result-2 g c =
-    let v = g.row.V-Value in
+pub overflow_add-result-2 : goal.overflow_add-result-2
+overflow_add-result-2 g c =
+    let v = g.V.Value in
     let s = setting_of v.width v.allows c.args.seat in
     let me = c.args.seat.me in
     let own = c.args.own.now in
@@ -107,13 +107,13 @@ overflow-add-result-2 g c =
     let zs = made_echo s me own.view r.proposal to in
     let us = made_vote s me 6 r to ++ (made_vote s me 7 r to ++ (made_vote s me 8 r to ++ made_vote s me 9 r to)) in
     let t = takes_list _ (xs ++ (ys ++ (zs ++ us))) (made_as s me r to) c.requires in
-    let same = ap (λ x. x ∷ []) c.proof-letter-m.ensures in
-    let proofs = posted-list _ xs same c.post-one-proofs.ensures in
-    omega (arith, four_fit xs ys zs us _ _ _ _ t proofs.answer c.post-offer-offers.ensures.answer c.post-echo-echoes.ensures.answer c.post-votes-votes.ensures.answer)
+    let same = ap (λ x. x ∷ []) c.proof_letter-m.ensures in
+    let proofs = posted-list _ xs same c.post_one-proofs.ensures in
+    omega (arith, four_fit xs ys zs us _ _ _ _ t proofs.answer c.post_offer-offers.ensures.answer c.post_echo-echoes.ensures.answer c.post_votes-votes.ensures.answer)
 
-pub overflow-add-result-3 : goal.overflow-add-result-3
-overflow-add-result-3 g c =
-    let v = g.row.V-Value in
+pub overflow_add-result-3 : goal.overflow_add-result-3
+overflow_add-result-3 g c =
+    let v = g.V.Value in
     let s = setting_of v.width v.allows c.args.seat in
     let me = c.args.seat.me in
     let own = c.args.own.now in
@@ -124,13 +124,13 @@ overflow-add-result-3 g c =
     let zs = made_echo s me own.view r.proposal to in
     let us = made_vote s me 6 r to ++ (made_vote s me 7 r to ++ (made_vote s me 8 r to ++ made_vote s me 9 r to)) in
     let t = takes_list _ (xs ++ (ys ++ (zs ++ us))) (made_as s me r to) c.requires in
-    let same = ap (λ x. x ∷ []) c.proof-letter-m.ensures in
-    let proofs = posted-list _ xs same c.post-one-proofs.ensures in
-    omega (arith, four_fit xs ys zs us _ _ _ _ t proofs.answer c.post-offer-offers.ensures.answer c.post-echo-echoes.ensures.answer c.post-votes-votes.ensures.answer)
+    let same = ap (λ x. x ∷ []) c.proof_letter-m.ensures in
+    let proofs = posted-list _ xs same c.post_one-proofs.ensures in
+    omega (arith, four_fit xs ys zs us _ _ _ _ t proofs.answer c.post_offer-offers.ensures.answer c.post_echo-echoes.ensures.answer c.post_votes-votes.ensures.answer)
 
 pub returns : goal.returns
 returns g c =
-    let v = g.row.V-Value in
+    let v = g.V.Value in
     let s = setting_of v.width v.allows c.args.seat in
     let me = c.args.seat.me in
     let own = c.args.own.now in
@@ -141,6 +141,6 @@ returns g c =
     let zs = made_echo s me own.view r.proposal to in
     let us = made_vote s me 6 r to ++ (made_vote s me 7 r to ++ (made_vote s me 8 r to ++ made_vote s me 9 r to)) in
     let t = takes_list _ (xs ++ (ys ++ (zs ++ us))) (made_as s me r to) c.requires in
-    let same = ap (λ x. x ∷ []) c.proof-letter-m.ensures in
-    let proofs = posted-list _ xs same c.post-one-proofs.ensures in
-    posted-list (xs ++ (ys ++ (zs ++ us))) _ (sym (made_as s me r to)) (posted-four _ _ _ _ _ _ _ _ _ _ _ _ _ _ xs ys zs us proofs c.post-offer-offers.ensures c.post-echo-echoes.ensures c.post-votes-votes.ensures)
+    let same = ap (λ x. x ∷ []) c.proof_letter-m.ensures in
+    let proofs = posted-list _ xs same c.post_one-proofs.ensures in
+    posted-list (xs ++ (ys ++ (zs ++ us))) _ (sym (made_as s me r to)) (posted-four _ _ _ _ _ _ _ _ _ _ _ _ _ _ xs ys zs us proofs c.post_offer-offers.ensures c.post_echo-echoes.ensures c.post_votes-votes.ensures)

@@ -10,25 +10,25 @@ use Rattle.posting.proofs.Steps.{takes_same, does_same, does_nothing}
 use Rattle.requests.proofs.Ways.{made_as, request_answered, request_noted}
 use Rattle.requests.proofs.requests.post_offer.Goals as goal
 
-pub post-one-requires : goal.post-one-requires
-post-one-requires g c =
-    let v = g.row.V-Value in
+pub post_one-requires : goal.post_one-requires
+post_one-requires g c =
+    let v = g.V.Value in
     let s = setting_of v.width v.allows c.args.seat in
     let me = c.args.seat.me in
     let own = c.args.own.now in
-    takes_list _ _ (ap (λ o. made_offer s me own.view (option_map (keyed_of v.bytes) o) c.args.to) c.in-Some.is ∙ ap (λ x. x ∷ []) (sym c.propose-letter-m.ensures)) c.requires
+    takes_list _ _ (ap (λ o. made_offer s me own.view (option_map (keyed_of v.bytes) o) c.args.to) c.in-Some.is ∙ ap (λ x. x ∷ []) (sym c.propose_letter-m.ensures)) c.requires
 
 pub returns-in-Some : goal.returns-in-Some
 returns-in-Some g c =
-    let v = g.row.V-Value in
+    let v = g.V.Value in
     let s = setting_of v.width v.allows c.args.seat in
     let me = c.args.seat.me in
     let own = c.args.own.now in
-    posted-list _ _ (sym (ap (λ o. made_offer s me own.view (option_map (keyed_of v.bytes) o) c.args.to) c.in-Some.is ∙ ap (λ x. x ∷ []) (sym c.propose-letter-m.ensures))) c.post-one.ensures
+    posted-list _ _ (sym (ap (λ o. made_offer s me own.view (option_map (keyed_of v.bytes) o) c.args.to) c.in-Some.is ∙ ap (λ x. x ∷ []) (sym c.propose_letter-m.ensures))) c.post_one.ensures
 
 pub returns-in-None : goal.returns-in-None
 returns-in-None g c =
-    let v = g.row.V-Value in
+    let v = g.V.Value in
     let s = setting_of v.width v.allows c.args.seat in
     let me = c.args.seat.me in
     let own = c.args.own.now in

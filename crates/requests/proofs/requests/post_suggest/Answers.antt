@@ -10,26 +10,26 @@ use Rattle.posting.proofs.Steps.{takes_same, does_same, does_nothing}
 use Rattle.requests.proofs.Ways.{made_as, request_answered, request_noted}
 use Rattle.requests.proofs.requests.post_suggest.Goals as goal
 
-pub post-one-requires : goal.post-one-requires
-post-one-requires g c =
-    let v = g.row.V-Value in
+pub post_one-requires : goal.post_one-requires
+post_one-requires g c =
+    let v = g.V.Value in
     let s = setting_of v.width v.allows c.args.seat in
     let me = c.args.seat.me in
     let own = c.args.own.now in
-    takes_if _ (suggest_msg s me own.view (suggest_of v.bytes own.suggest) c.args.to) _ (eq-eqb _ _ (c.if-to-primary-of.true ∙ c.primary-of.ensures)) c.suggest-letter-m.ensures c.requires
+    takes_if _ (suggest_msg s me own.view (suggest_of v.bytes own.suggest) c.args.to) _ (eq-eqb _ _ (c.if-to-primary_of.true ∙ c.primary_of.ensures)) c.suggest_letter-m.ensures c.requires
 
-pub returns-then-to-primary-of : goal.returns-then-to-primary-of
-returns-then-to-primary-of g c =
-    let v = g.row.V-Value in
+pub returns-then-to-primary_of : goal.returns-then-to-primary_of
+returns-then-to-primary_of g c =
+    let v = g.V.Value in
     let s = setting_of v.width v.allows c.args.seat in
     let me = c.args.seat.me in
     let own = c.args.own.now in
-    posted_if _ (suggest_msg s me own.view (suggest_of v.bytes own.suggest) c.args.to) _ (eq-eqb _ _ (c.if-to-primary-of.true ∙ c.primary-of.ensures)) c.suggest-letter-m.ensures c.post-one.ensures
+    posted_if _ (suggest_msg s me own.view (suggest_of v.bytes own.suggest) c.args.to) _ (eq-eqb _ _ (c.if-to-primary_of.true ∙ c.primary_of.ensures)) c.suggest_letter-m.ensures c.post_one.ensures
 
-pub returns-else-to-primary-of : goal.returns-else-to-primary-of
-returns-else-to-primary-of g c =
-    let v = g.row.V-Value in
+pub returns-else-to-primary_of : goal.returns-else-to-primary_of
+returns-else-to-primary_of g c =
+    let v = g.V.Value in
     let s = setting_of v.width v.allows c.args.seat in
     let me = c.args.seat.me in
     let own = c.args.own.now in
-    posted_if_not _ (suggest_msg s me own.view (suggest_of v.bytes own.suggest) c.args.to) (ne_eqb _ _ (λ e. c.if-to-primary-of.false (e ∙ sym c.primary-of.ensures)))
+    posted_if_not _ (suggest_msg s me own.view (suggest_of v.bytes own.suggest) c.args.to) (ne_eqb _ _ (λ e. c.if-to-primary_of.false (e ∙ sym c.primary_of.ensures)))

@@ -10,9 +10,9 @@ use Rattle.posting.proofs.Steps.{takes_same, does_same, does_nothing}
 use Rattle.requests.proofs.Ways.{made_as, request_answered, request_noted}
 use Rattle.requests.proofs.requests.post_vote.Goals as goal
 
-pub post-one-requires : goal.post-one-requires
-post-one-requires g c =
-    let v = g.row.V-Value in
+pub post_one-requires : goal.post_one-requires
+post_one-requires g c =
+    let v = g.V.Value in
     let s = setting_of v.width v.allows c.args.seat in
     let me = c.args.seat.me in
     let own = c.args.own.now in
@@ -20,11 +20,11 @@ post-one-requires g c =
     let f = (record_of v.bytes own).field kind in
     let at : Keyed → ℕ = λ k. k.at in
     let x = vote_msg s me kind own.view f.value c.args.to in
-    takes_if _ x _ (eq-eqb _ _ (sym (ap at c.field-k.ensures) ∙ c.if-k-own.true)) (c.vote-letter-m.ensures ∙ ap (λ k. vote_msg s me kind own.view k.value c.args.to) c.field-k.ensures) c.requires.taken
+    takes_if _ x _ (eq-eqb _ _ (sym (ap at c.field-k.ensures) ∙ c.if-k-own.true)) (c.vote_letter-m.ensures ∙ ap (λ k. vote_msg s me kind own.view k.value c.args.to) c.field-k.ensures) c.requires.taken
 
 pub returns-then-k-own : goal.returns-then-k-own
 returns-then-k-own g c =
-    let v = g.row.V-Value in
+    let v = g.V.Value in
     let s = setting_of v.width v.allows c.args.seat in
     let me = c.args.seat.me in
     let own = c.args.own.now in
@@ -32,11 +32,11 @@ returns-then-k-own g c =
     let f = (record_of v.bytes own).field kind in
     let at : Keyed → ℕ = λ k. k.at in
     let x = vote_msg s me kind own.view f.value c.args.to in
-    posted_if _ x _ (eq-eqb _ _ (sym (ap at c.field-k.ensures) ∙ c.if-k-own.true)) (c.vote-letter-m.ensures ∙ ap (λ k. vote_msg s me kind own.view k.value c.args.to) c.field-k.ensures) c.post-one.ensures
+    posted_if _ x _ (eq-eqb _ _ (sym (ap at c.field-k.ensures) ∙ c.if-k-own.true)) (c.vote_letter-m.ensures ∙ ap (λ k. vote_msg s me kind own.view k.value c.args.to) c.field-k.ensures) c.post_one.ensures
 
 pub returns-else-k-own : goal.returns-else-k-own
 returns-else-k-own g c =
-    let v = g.row.V-Value in
+    let v = g.V.Value in
     let s = setting_of v.width v.allows c.args.seat in
     let me = c.args.seat.me in
     let own = c.args.own.now in

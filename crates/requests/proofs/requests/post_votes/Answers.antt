@@ -10,9 +10,9 @@ use Rattle.posting.proofs.Steps.{takes_same, does_same, does_nothing}
 use Rattle.requests.proofs.Ways.{made_as, request_answered, request_noted}
 use Rattle.requests.proofs.requests.post_votes.Goals as goal
 
-pub post-vote-key1-requires : goal.post-vote-key1-requires
-post-vote-key1-requires g c =
-    let v = g.row.V-Value in
+pub post_vote-key1-requires : goal.post_vote-key1-requires
+post_vote-key1-requires g c =
+    let v = g.V.Value in
     let s = setting_of v.width v.allows c.args.seat in
     let me = c.args.seat.me in
     let own = c.args.own.now in
@@ -23,9 +23,9 @@ post-vote-key1-requires g c =
     let us = made_vote s me 9 r c.args.to in
     record { kinds = (omega arith, omega arith); taken = takes_first _ _ _ _ xs (ys ++ (zs ++ us)) c.requires }
 
-pub post-vote-key2-requires : goal.post-vote-key2-requires
-post-vote-key2-requires g c =
-    let v = g.row.V-Value in
+pub post_vote-key2-requires : goal.post_vote-key2-requires
+post_vote-key2-requires g c =
+    let v = g.V.Value in
     let s = setting_of v.width v.allows c.args.seat in
     let me = c.args.seat.me in
     let own = c.args.own.now in
@@ -34,11 +34,11 @@ post-vote-key2-requires g c =
     let ys = made_vote s me 7 r c.args.to in
     let zs = made_vote s me 8 r c.args.to in
     let us = made_vote s me 9 r c.args.to in
-    record { kinds = (omega arith, omega arith); taken = takes_first _ _ _ _ ys (zs ++ us) (takes_rest _ _ _ _ _ _ xs (ys ++ (zs ++ us)) c.requires c.post-vote-key1.ensures.list c.post-vote-key1.ensures.kept) }
+    record { kinds = (omega arith, omega arith); taken = takes_first _ _ _ _ ys (zs ++ us) (takes_rest _ _ _ _ _ _ xs (ys ++ (zs ++ us)) c.requires c.post_vote-key1.ensures.list c.post_vote-key1.ensures.kept) }
 
-pub post-vote-key3-requires : goal.post-vote-key3-requires
-post-vote-key3-requires g c =
-    let v = g.row.V-Value in
+pub post_vote-key3-requires : goal.post_vote-key3-requires
+post_vote-key3-requires g c =
+    let v = g.V.Value in
     let s = setting_of v.width v.allows c.args.seat in
     let me = c.args.seat.me in
     let own = c.args.own.now in
@@ -47,11 +47,11 @@ post-vote-key3-requires g c =
     let ys = made_vote s me 7 r c.args.to in
     let zs = made_vote s me 8 r c.args.to in
     let us = made_vote s me 9 r c.args.to in
-    record { kinds = (omega arith, omega arith); taken = takes_first _ _ _ _ zs us (takes_rest _ _ _ _ _ _ ys (zs ++ us) (takes_rest _ _ _ _ _ _ xs (ys ++ (zs ++ us)) c.requires c.post-vote-key1.ensures.list c.post-vote-key1.ensures.kept) c.post-vote-key2.ensures.list c.post-vote-key2.ensures.kept) }
+    record { kinds = (omega arith, omega arith); taken = takes_first _ _ _ _ zs us (takes_rest _ _ _ _ _ _ ys (zs ++ us) (takes_rest _ _ _ _ _ _ xs (ys ++ (zs ++ us)) c.requires c.post_vote-key1.ensures.list c.post_vote-key1.ensures.kept) c.post_vote-key2.ensures.list c.post_vote-key2.ensures.kept) }
 
-pub post-vote-lock-requires : goal.post-vote-lock-requires
-post-vote-lock-requires g c =
-    let v = g.row.V-Value in
+pub post_vote-lock-requires : goal.post_vote-lock-requires
+post_vote-lock-requires g c =
+    let v = g.V.Value in
     let s = setting_of v.width v.allows c.args.seat in
     let me = c.args.seat.me in
     let own = c.args.own.now in
@@ -60,11 +60,11 @@ post-vote-lock-requires g c =
     let ys = made_vote s me 7 r c.args.to in
     let zs = made_vote s me 8 r c.args.to in
     let us = made_vote s me 9 r c.args.to in
-    record { kinds = (omega arith, omega arith); taken = takes_rest _ _ _ _ _ _ zs us (takes_rest _ _ _ _ _ _ ys (zs ++ us) (takes_rest _ _ _ _ _ _ xs (ys ++ (zs ++ us)) c.requires c.post-vote-key1.ensures.list c.post-vote-key1.ensures.kept) c.post-vote-key2.ensures.list c.post-vote-key2.ensures.kept) c.post-vote-key3.ensures.list c.post-vote-key3.ensures.kept }
+    record { kinds = (omega arith, omega arith); taken = takes_rest _ _ _ _ _ _ zs us (takes_rest _ _ _ _ _ _ ys (zs ++ us) (takes_rest _ _ _ _ _ _ xs (ys ++ (zs ++ us)) c.requires c.post_vote-key1.ensures.list c.post_vote-key1.ensures.kept) c.post_vote-key2.ensures.list c.post_vote-key2.ensures.kept) c.post_vote-key3.ensures.list c.post_vote-key3.ensures.kept }
 
-pub overflow-add-result : goal.overflow-add-result
-overflow-add-result g c =
-    let v = g.row.V-Value in
+pub overflow_add-result : goal.overflow_add-result
+overflow_add-result g c =
+    let v = g.V.Value in
     let s = setting_of v.width v.allows c.args.seat in
     let me = c.args.seat.me in
     let own = c.args.own.now in
@@ -73,11 +73,11 @@ overflow-add-result g c =
     let ys = made_vote s me 7 r c.args.to in
     let zs = made_vote s me 8 r c.args.to in
     let us = made_vote s me 9 r c.args.to in
-    omega (arith, four_fit xs ys zs us _ _ _ _ c.requires c.post-vote-key1.ensures.answer c.post-vote-key2.ensures.answer c.post-vote-key3.ensures.answer c.post-vote-lock.ensures.answer)
+    omega (arith, four_fit xs ys zs us _ _ _ _ c.requires c.post_vote-key1.ensures.answer c.post_vote-key2.ensures.answer c.post_vote-key3.ensures.answer c.post_vote-lock.ensures.answer)
 
-pub overflow-add-result-2 : goal.overflow-add-result-2
-overflow-add-result-2 g c =
-    let v = g.row.V-Value in
+pub overflow_add-result-2 : goal.overflow_add-result-2
+overflow_add-result-2 g c =
+    let v = g.V.Value in
     let s = setting_of v.width v.allows c.args.seat in
     let me = c.args.seat.me in
     let own = c.args.own.now in
@@ -86,11 +86,11 @@ overflow-add-result-2 g c =
     let ys = made_vote s me 7 r c.args.to in
     let zs = made_vote s me 8 r c.args.to in
     let us = made_vote s me 9 r c.args.to in
-    omega (arith, four_fit xs ys zs us _ _ _ _ c.requires c.post-vote-key1.ensures.answer c.post-vote-key2.ensures.answer c.post-vote-key3.ensures.answer c.post-vote-lock.ensures.answer)
+    omega (arith, four_fit xs ys zs us _ _ _ _ c.requires c.post_vote-key1.ensures.answer c.post_vote-key2.ensures.answer c.post_vote-key3.ensures.answer c.post_vote-lock.ensures.answer)
 
-pub overflow-add-result-3 : goal.overflow-add-result-3
-overflow-add-result-3 g c =
-    let v = g.row.V-Value in
+pub overflow_add-result-3 : goal.overflow_add-result-3
+overflow_add-result-3 g c =
+    let v = g.V.Value in
     let s = setting_of v.width v.allows c.args.seat in
     let me = c.args.seat.me in
     let own = c.args.own.now in
@@ -99,11 +99,11 @@ overflow-add-result-3 g c =
     let ys = made_vote s me 7 r c.args.to in
     let zs = made_vote s me 8 r c.args.to in
     let us = made_vote s me 9 r c.args.to in
-    omega (arith, four_fit xs ys zs us _ _ _ _ c.requires c.post-vote-key1.ensures.answer c.post-vote-key2.ensures.answer c.post-vote-key3.ensures.answer c.post-vote-lock.ensures.answer)
+    omega (arith, four_fit xs ys zs us _ _ _ _ c.requires c.post_vote-key1.ensures.answer c.post_vote-key2.ensures.answer c.post_vote-key3.ensures.answer c.post_vote-lock.ensures.answer)
 
 pub returns : goal.returns
 returns g c =
-    let v = g.row.V-Value in
+    let v = g.V.Value in
     let s = setting_of v.width v.allows c.args.seat in
     let me = c.args.seat.me in
     let own = c.args.own.now in
@@ -112,4 +112,4 @@ returns g c =
     let ys = made_vote s me 7 r c.args.to in
     let zs = made_vote s me 8 r c.args.to in
     let us = made_vote s me 9 r c.args.to in
-    posted-four _ _ _ _ _ _ _ _ _ _ _ _ _ _ xs ys zs us c.post-vote-key1.ensures c.post-vote-key2.ensures c.post-vote-key3.ensures c.post-vote-lock.ensures
+    posted-four _ _ _ _ _ _ _ _ _ _ _ _ _ _ xs ys zs us c.post_vote-key1.ensures c.post_vote-key2.ensures c.post_vote-key3.ensures c.post_vote-lock.ensures

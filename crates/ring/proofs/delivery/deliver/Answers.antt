@@ -8,12 +8,12 @@ use Rattle.tables.specs.Meaning.{ring_of, answer_of}
 use Rattle.turns.specs.Meaning.{kind_of}
 use Rattle.ring.proofs.delivery.deliver.Goals as goal
 
-pub returns-then-not-tables-in-order : goal.returns-then-not-tables-in-order
-returns-then-not-tables-in-order g c =
-    let v = g.row.V-Value in
+pub returns-then-not-tables_in_order : goal.returns-then-not-tables_in_order
+returns-then-not-tables_in_order g c =
+    let v = g.V.Value in
     let k = kind_of v.width v.valid v.allows in
     let s = ring_of v.bytes c.args.ring.now c.args.records.now c.args.rows.now (g.W.Wire.waiting c.args.wire.now) (g.W.Wire.capacity c.args.wire.now) in
-    record { gives = unfit k s (cond c.args.keep (repeat c.args.place) (hand c.args.place)) s c.if-not-tables-in-order.ensures refl; untouched = (refl, refl) }
+    record { gives = unfit k s (cond c.args.keep (repeat c.args.place) (hand c.args.place)) s c.if-not-tables_in_order.ensures refl; untouched = (refl, refl) }
 
 -- kept, or taken out
 one-of-both : (k : Kind) (s : Ring) (i : ℕ) (keep : Bool) (a : Answer) (s' : Ring) → Gives (bring_found k s (looked s.wire i) (cond keep s.wire (taken s.wire i))) a s' →
@@ -23,11 +23,11 @@ one-of-both k s i false a s' g = g
 
 pub returns : goal.returns
 returns g c =
-    let v = g.row.V-Value in
+    let v = g.V.Value in
     let k = kind_of v.width v.valid v.allows in
     let s = ring_of v.bytes c.args.ring.now c.args.records.now c.args.rows.now (g.W.Wire.waiting c.args.wire.now) (g.W.Wire.capacity c.args.wire.now) in
     record {
-      gives = obeyed k s (cond c.args.keep (repeat c.args.place) (hand c.args.place)) (answer_of c.bring.result) _ c.if-not-tables-in-order.ensures
+      gives = obeyed k s (cond c.args.keep (repeat c.args.place) (hand c.args.place)) (answer_of c.bring.result) _ c.if-not-tables_in_order.ensures
           (one-of-both k s c.args.place c.args.keep (answer_of c.bring.result) _ c.bring.ensures.gives);
       untouched = c.bring.ensures.untouched;
     }

@@ -7,7 +7,7 @@ use Rattle.setup.proofs.entering.enter_all.Given as goal
 
 abbrev pub invariant-loop-i : goal.invariant-loop-i
 invariant-loop-i g l =
-    let v = g.row.V-Value in
+    let v = g.V.Value in
     let w = g.W.Wire in
     ring_of v.bytes l.ring l.records l.rows (w.waiting l.wire) (w.capacity l.wire) ≡
     up_to (kind_of v.width v.valid v.allows) (plan_of v.bytes l.ring.n l.ring.f l.ring.faulty l.own)

@@ -16,4 +16,4 @@ pub returns : goal.returns
 returns g c =
     let n = c.args.ring.now.n in
     by_rows n (length c.args.own.now) (length c.args.records.now) (n * n) (length c.args.rows.now) _ (omega arith) (omega arith)
-    (ap (λ j. leb j (length c.args.rows.now)) c.rows-of-all.ensures)
+    (ap (λ j. leb j (length c.args.rows.now)) c.rows_of_all.ensures)

@@ -11,24 +11,24 @@ use Rattle.setup.proofs.Firsts.{resized, done_same}
 use Rattle.setup.proofs.Tests.{size_parts, enough_parts, refuse_1, accept, plan_refused, plan_free}
 use Rattle.setup.proofs.setup.set_up.Goals as goal
 
-pub returns-then-not-sizes-fit : goal.returns-then-not-sizes-fit
-returns-then-not-sizes-fit g c =
-    let v = g.row.V-Value in
+pub returns-then-not-sizes_in_order : goal.returns-then-not-sizes_in_order
+returns-then-not-sizes_in_order g c =
+    let v = g.V.Value in
     let n = c.args.n in
     let k = kind_of v.width v.valid v.allows in
     let p = plan_of v.bytes n c.args.f c.args.faulty c.args.own.now in
     let s = ring_at v.bytes n c.args.ring.now c.args.records.now c.args.rows.now (g.W.Wire.waiting c.args.wire.now) (g.W.Wire.capacity c.args.wire.now) in
-    record { gives = refuse_1 k p s c.if-not-sizes-fit.ensures; leaves = (refl, refl, refl, refl, refl) }
+    record { gives = refuse_1 k p s c.if-not-sizes_in_order.ensures; leaves = (refl, refl, refl, refl, refl) }
 
-pub overflow-cast-planned : goal.overflow-cast-planned
-overflow-cast-planned g c = let p = size_parts c.args.n c.args.f c.if-not-sizes-fit.ensures in omega (arith, p.1)
+pub overflow_cast-planned : goal.overflow_cast-planned
+overflow_cast-planned g c = let p = size_parts c.args.n c.args.f c.if-not-sizes_in_order.ensures in omega (arith, p.1)
 
-pub overflow-cast-planned-2 : goal.overflow-cast-planned-2
-overflow-cast-planned-2 g c = let p = size_parts c.args.n c.args.f c.if-not-sizes-fit.ensures in omega (arith, p.1, p.2)
+pub overflow_cast-planned-2 : goal.overflow_cast-planned-2
+overflow_cast-planned-2 g c = let p = size_parts c.args.n c.args.f c.if-not-sizes_in_order.ensures in omega (arith, p.1, p.2)
 
 pub returns-in-Some : goal.returns-in-Some
 returns-in-Some g c =
-    let v = g.row.V-Value in
+    let v = g.V.Value in
     let n = c.args.n in
     let k = kind_of v.width v.valid v.allows in
     let p = plan_of v.bytes n c.args.f c.args.faulty c.args.own.now in
@@ -40,14 +40,14 @@ returns-in-Some g c =
     λ h. e.owns (enough_parts n (length c.args.own.now) (length c.args.records.now) (n * n) (length c.args.rows.now)
     (h ∙ ap (λ j. leb n j && (leb n (length c.args.records.now) && leb (n * n) (length c.args.rows.now))) (length-map c.args.own.now v.bytes))).0 in
     record {
-      gives = plan_refused k p s c.if-not-sizes-fit.ensures i.named i.few i.places i.owns i.vacant i.roomy (refusal_number c.in-Some.refusal)
+      gives = plan_refused k p s c.if-not-sizes_in_order.ensures i.named i.few i.places i.owns i.vacant i.roomy (refusal_number c.in-Some.refusal)
           e.named e.few places owns e.vacant e.roomy c.in-Some.ensures;
       leaves = (refl, refl, refl, refl, refl);
     }
 
-pub enter-all-requires : goal.enter-all-requires
-enter-all-requires g c =
-    let v = g.row.V-Value in
+pub enter_all-requires : goal.enter_all-requires
+enter_all-requires g c =
+    let v = g.V.Value in
     let n = c.args.n in
     let k = kind_of v.width v.valid v.allows in
     let p = plan_of v.bytes n c.args.f c.args.faulty c.args.own.now in
@@ -67,7 +67,7 @@ enter-all-requires g c =
 
 pub returns-in-None : goal.returns-in-None
 returns-in-None g c =
-    let v = g.row.V-Value in
+    let v = g.V.Value in
     let n = c.args.n in
     let k = kind_of v.width v.valid v.allows in
     let p = plan_of v.bytes n c.args.f c.args.faulty c.args.own.now in
@@ -79,7 +79,7 @@ returns-in-None g c =
     λ h. e.owns (enough_parts n (length c.args.own.now) (length c.args.records.now) (n * n) (length c.args.rows.now)
     (h ∙ ap (λ j. leb n j && (leb n (length c.args.records.now) && leb (n * n) (length c.args.rows.now))) (length-map c.args.own.now v.bytes))).0 in
     let t = plan_free k p s i.named i.few i.places i.owns i.vacant i.roomy e.named e.few places owns e.vacant e.roomy c.in-None.ensures in
-    let l = c.enter-all.new in
+    let l = c.enter_all.new in
     let s' : Ring =
     record {
       n = n;
@@ -91,8 +91,8 @@ returns-in-None g c =
       wire = g.W.Wire.waiting l.wire;
       capacity = g.W.Wire.capacity l.wire;
     } in
-    let q : s' ≡ (set_up_done k p (resized s n c.args.f (named c.args.faulty))).after = c.enter-all.ensures in
+    let q : s' ≡ (set_up_done k p (resized s n c.args.f (named c.args.faulty))).after = c.enter_all.ensures in
     record {
-      gives = accept k p s c.if-not-sizes-fit.ensures t.0 t.1 t.2 t.3 t.4 s' t.5 (q ∙ done_same k p s n c.args.f (named c.args.faulty));
+      gives = accept k p s c.if-not-sizes_in_order.ensures t.0 t.1 t.2 t.3 t.4 s' t.5 (q ∙ done_same k p s n c.args.f (named c.args.faulty));
       leaves = (refl, refl);
     }

@@ -6,11 +6,11 @@ use Rattle.sheet_lines.specs.Faults.{outcome}
 use Rattle.sheet.proofs.Eaches.{size_more, size_stops}
 use Rattle.sheet.proofs.calls.pass_calls.Goals as goal
 
-pub returns-in-err-take-call : goal.returns-in-err-take-call
-returns-in-err-take-call c =
+pub returns-in_err-take_call : goal.returns-in_err-take_call
+returns-in_err-take_call c =
     let p = err_from_is_err_and c.from-residual.result c.from-residual.ensures.1 in
     let v = c.loop-cursor.invariant in
-    let b = c.in-err-take-call.ensures in
+    let b = c.in_err-take_call.ensures in
     let t = leb-false _ _ (sym c.loop-cursor-test.ensures) in
     let q = ap (λ s. length (lines s)) v.0 in
     let l : c.loop-cursor.count < length (lines c.args.cursor.now.sheet.now) - c.args.cursor.now.passed = omega (arith, t, q, v.1) in
@@ -21,7 +21,7 @@ returns-in-err-take-call c =
 pub loop-cursor-preserved : goal.loop-cursor-preserved
 loop-cursor-preserved c =
     let v = c.loop-cursor.invariant in
-    let b = c.in-ok-take-call.ensures in
+    let b = c.in_ok-take_call.ensures in
     let t = leb-false _ _ (sym c.loop-cursor-test.ensures) in
     let q = ap (λ s. length (lines s)) v.0 in
     let m = size_more c.loop-cursor.cursor.sheet.now c.args.cursor.now.sheet.now c.args.cursor.now.passed c.loop-cursor.cursor.passed c.loop-cursor.count _

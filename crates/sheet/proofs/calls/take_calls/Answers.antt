@@ -7,11 +7,11 @@ use Rattle.sheet.specs.declared.calls.CallsFault.TheVariants.{Sheet, Memory}
 use Rattle.sheet.proofs.Eaches.{some_calls, call_more, call_stops}
 use Rattle.sheet.proofs.calls.take_calls.Goals as goal
 
-pub returns-in-err-call : goal.returns-in-err-call
-returns-in-err-call c =
+pub returns-in_err-call : goal.returns-in_err-call
+returns-in_err-call c =
     let p = err_from_is_err_and c.from-residual.result c.from-residual.ensures.1 in
     let v = c.loop-cursor.invariant in
-    let b = c.in-err-call.ensures in
+    let b = c.in_err-call.ensures in
     let t = leb-false _ _ (sym c.loop-cursor-test.ensures) in
     let q = ap (λ s. length (lines s)) v.0 in
     let n = length (lines c.args.cursor.now.sheet.now) - c.args.cursor.now.passed in
@@ -23,14 +23,14 @@ returns-in-err-call c =
 pub loop-cursor-preserved : goal.loop-cursor-preserved
 loop-cursor-preserved c =
     let v = c.loop-cursor.invariant in
-    let b = c.in-ok-call.ensures in
+    let b = c.in_ok-call.ensures in
     let t = leb-false _ _ (sym c.loop-cursor-test.ensures) in
     let q = ap (λ s. length (lines s)) v.0 in
     let k = length (vec_items c.loop-cursor.calls) in
     let m = call_more c.loop-cursor.cursor.sheet.now c.args.cursor.now.sheet.now c.args.cursor.now.passed c.loop-cursor.cursor.passed k _ _
     v.0 v.1 v.3 b.value in
-    let w : vec_items c.push.new.self ≡ vec_items c.loop-cursor.calls ++ c.in-ok-call.call ∷ [] = search (rules, c.if-is-err.ensures) in
-    let e : length (vec_items c.push.new.self) ≡ k + 1 = ap length w ∙ length_push (vec_items c.loop-cursor.calls) c.in-ok-call.call in (
+    let w : vec_items c.push.new.self ≡ vec_items c.loop-cursor.calls ++ c.in_ok-call.call ∷ [] = search (rules, c.if-is_err.ensures) in
+    let e : length (vec_items c.push.new.self) ≡ k + 1 = ap length w ∙ length_push (vec_items c.loop-cursor.calls) c.in_ok-call.call in (
       b.same ∙ v.0,
       omega (arith, b.passed, v.1, e),
       omega (arith, t, q, v.1, e),

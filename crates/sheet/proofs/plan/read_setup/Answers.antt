@@ -4,10 +4,10 @@ use Rattle.sheet.proofs.plan.read_setup.Goals as goal
 
 pub returns : goal.returns
 returns g c =
-    let b = c.in-ok-own.ensures in
+    let b = c.in_ok-own.ensures in
     record {
       same = b.same;
       passed = b.passed;
       given = (refl, refl, refl);
-      value = table_is (map g.row.V-Value.bytes c.in-ok-own.own) c.args.parties (replicate g.row.V-Value.width 0) _ b.value b.rest;
+      value = table_is (map g.V.Value.bytes c.in_ok-own.own) c.args.parties (replicate g.V.Value.width 0) _ b.value b.rest;
     }

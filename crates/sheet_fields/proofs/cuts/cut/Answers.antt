@@ -11,8 +11,8 @@ pub returns : goal.returns
 returns c =
     let s = c.args.s.now in
     let stop = c.args.stop in
-    let end = c.place-of-end.result in
-    let e = c.place-of-end.ensures in
+    let end = c.place_of-end.result in
+    let e = c.place_of-end.ensures in
     let z : end - 0 ≡ end = omega arith in (
       has-is stop s ∙ lt-ltb _ _ (omega arith),
       (

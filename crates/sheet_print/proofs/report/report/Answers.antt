@@ -13,4 +13,4 @@ says_any (Ok m) cs text e = tt
 says_any (Err line) cs text e = let z : ◌≡◌ {A = ℕ} 0 1 = cc in absurd (omega arith)
 
 pub returns-in-Ok-calls : goal.returns-in-Ok-calls
-returns-in-Ok-calls c = made_all c.plan-text.result _ (λ s. says_any _ _ _ c.in-Ok-calls.ensures)
+returns-in-Ok-calls c = made_all c.plan_text.result _ (λ s. says_any _ _ _ c.in-Ok-calls.ensures)

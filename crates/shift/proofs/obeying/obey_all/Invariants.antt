@@ -7,7 +7,7 @@ use Rattle.shift.proofs.obeying.obey_all.Given as goal
 
 abbrev pub invariant-loop-call : goal.invariant-loop-call
 invariant-loop-call g l =
-    let v = g.row.V-Value in
+    let v = g.V.Value in
     let w = g.W.Wire in
     let k = kind_of v.width v.valid v.allows in
     let s = ring_of v.bytes l.ring l.initial.records l.initial.rows (w.waiting l.initial.wire) (w.capacity l.initial.wire) in

@@ -10,7 +10,7 @@ use Rattle.shift.proofs.shift.run_shift.Goals as goal
 
 pub returns-in-Ok : goal.returns-in-Ok
 returns-in-Ok g c =
-    let v = g.row.V-Value in
+    let v = g.V.Value in
     let n = c.args.n in
     let k = kind_of v.width v.valid v.allows in
     let p = plan_of v.bytes n c.args.f c.args.faulty c.args.own.now in
@@ -18,7 +18,7 @@ returns-in-Ok g c =
     let cs = map (call_of v.bytes) c.args.calls.now in
     let e = c.in-Ok.ensures in
     let m = c.set_up.new in
-    let o = c.obey-all.new in
+    let o = c.obey_all.new in
     let t = ring_of v.bytes m.ring m.records m.rows (g.W.Wire.waiting m.wire) (g.W.Wire.capacity m.wire) in
     let s' = ring_of v.bytes m.ring o.records o.rows (g.W.Wire.waiting o.wire) (g.W.Wire.capacity o.wire) in
     let begun : t ≡ (set_up k p s).after =
@@ -26,8 +26,8 @@ returns-in-Ok g c =
     let started : (set_up k p s).answer ≡ said 0 = sym e.gives.answer ∙ ap said e.leaves.0 in
     record {
       started = started;
-      passed_over = c.obey-all.ensures.answer ∙ ap (λ t. refusals k t cs) begun;
-      ring = shift-ring k p s t s' cs begun c.obey-all.ensures.after;
+      passed_over = c.obey_all.ensures.answer ∙ ap (λ t. refusals k t cs) begun;
+      ring = shift-ring k p s t s' cs begun c.obey_all.ensures.after;
       counts = counts_hold k p s cs started;
     }
 

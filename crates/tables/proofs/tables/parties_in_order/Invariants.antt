@@ -6,4 +6,4 @@ use Rattle.tables.proofs.tables.parties_in_order.Given as goal
 
 abbrev pub invariant-loop-i : goal.invariant-loop-i
 invariant-loop-i g l =
-    every (λ i. named l.ring.faulty i || party_fits l.ring.n (parties_of g.row.V-Value.bytes l.ring.n l.records l.rows i)) l.i ≡ true
+    every (λ i. named l.ring.faulty i || party_fits l.ring.n (parties_of g.V.Value.bytes l.ring.n l.records l.rows i)) l.i ≡ true

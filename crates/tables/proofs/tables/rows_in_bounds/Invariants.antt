@@ -4,4 +4,4 @@ use Rattle.rows.specs.Meaning.{rows_of}
 use Rattle.tables.proofs.tables.rows_in_bounds.Given as goal
 
 abbrev pub invariant-loop-row : goal.invariant-loop-row
-invariant-loop-row g l = every (λ j. row_fits (rows_of g.row.V-Value.bytes l.rows j)) l.row-index ≡ true
+invariant-loop-row g l = every (λ j. row_fits (rows_of g.V.Value.bytes l.rows j)) l.row-index ≡ true

@@ -5,16 +5,16 @@ use Rattle.tables.proofs.tables.tables_in_order.Goals as goal
 
 pub returns-then-records-ring : goal.returns-then-records-ring
 returns-then-records-ring g c =
-    few-records (ring_of g.row.V-Value.bytes c.args.ring.now c.args.records.now c.args.rows.now [] 0) (omega arith)
+    few-records (ring_of g.V.Value.bytes c.args.ring.now c.args.records.now c.args.rows.now [] 0) (omega arith)
 
-pub returns-then-rows-rows-of-all : goal.returns-then-rows-rows-of-all
-returns-then-rows-rows-of-all g c =
-    few-rows (ring_of g.row.V-Value.bytes c.args.ring.now c.args.records.now c.args.rows.now [] 0) (omega (arith, c.rows-of-all.ensures))
+pub returns-then-rows-rows_of_all : goal.returns-then-rows-rows_of_all
+returns-then-rows-rows_of_all g c =
+    few-rows (ring_of g.V.Value.bytes c.args.ring.now c.args.records.now c.args.rows.now [] 0) (omega (arith, c.rows_of_all.ensures))
 
-pub parties-in-order-requires : goal.parties-in-order-requires
-parties-in-order-requires g c = (omega arith, omega (arith, c.rows-of-all.ensures))
+pub parties_in_order-requires : goal.parties_in_order-requires
+parties_in_order-requires g c = (omega arith, omega (arith, c.rows_of_all.ensures))
 
 pub returns : goal.returns
 returns g c =
-    all_fit (ring_of g.row.V-Value.bytes c.args.ring.now c.args.records.now c.args.rows.now [] 0) c.parties-in-order.result
-    (omega arith) (omega (arith, c.rows-of-all.ensures)) c.parties-in-order.ensures
+    all_fit (ring_of g.V.Value.bytes c.args.ring.now c.args.records.now c.args.rows.now [] 0) c.parties_in_order.result
+    (omega arith) (omega (arith, c.rows_of_all.ensures)) c.parties_in_order.ensures

@@ -6,4 +6,4 @@ use Rattle.tally.proofs.tally.tally.Given as goal
 
 abbrev pub invariant-loop-row : goal.invariant-loop-row
 invariant-loop-row g l =
-    (l.found ≤ l.row-index) × (l.found ≡ count (λ j. g.C.Claim.backed l.claim (rows_of g.row.V-Value.bytes l.rows j)) l.row-index)
+    (l.found ≤ l.row-index) × (l.found ≡ count (λ j. g.C.Claim.backed l.claim (rows_of g.V.Value.bytes l.rows j)) l.row-index)

@@ -11,28 +11,28 @@ use Rattle.std.proofs.lemmas.List.{length-set}
 use Rattle.turns.proofs.Turning.{turned, part-kept, part_whole, part_read, part-written, part_fits, part_early}
 use Rattle.turns.proofs.timing.time_out.Goals as goal
 
-pub offset-bounds-records-party : goal.offset-bounds-records-party
-offset-bounds-records-party g c = let h : c.args.party - 1 ≤ length c.args.records.now = omega arith in search (rules, scaled_fits≤)
+pub offset_bounds-records-party : goal.offset_bounds-records-party
+offset_bounds-records-party g c = let h : c.args.party - 1 ≤ length c.args.records.now = omega arith in search (rules, scaled_fits≤)
 
-pub offset-bounds-rows-base : goal.offset-bounds-rows-base
-offset-bounds-rows-base g c = let h : c.base-of-base.result ≤ length c.args.rows.now = omega (arith, c.base-of-base.ensures.within, c.requires.places.1) in search (rules, scaled_fits≤)
+pub offset_bounds-rows-base : goal.offset_bounds-rows-base
+offset_bounds-rows-base g c = let h : c.base_of-base.result ≤ length c.args.rows.now = omega (arith, c.base_of-base.ensures.within, c.requires.places.1) in search (rules, scaled_fits≤)
 
-pub invariant-of-seat : goal.invariant-of-seat
-invariant-of-seat g c = (c.args.ring.now.most, (c.args.ring.now.few (omega (arith, c.requires.honest.0, c.requires.honest.1)), (c.requires.honest.0, (c.requires.honest.1, tt))))
+pub invariant_of-seat : goal.invariant_of-seat
+invariant_of-seat g c = record { most = c.args.ring.now.most; few = c.args.ring.now.few (omega (arith, c.requires.honest.0, c.requires.honest.1)); first = c.requires.honest.0; last = c.requires.honest.1 }
 
 pub timer-requires : goal.timer-requires
 timer-requires g c =
-    let v = g.row.V-Value in
+    let v = g.V.Value in
     let s = c.args.ring.now in
-    let b = c.base-of-base in
+    let b = c.base_of-base in
     let i = c.index-records-party in
     record { whole = part_whole v.bytes s.n c.args.party b.result c.args.records.now c.args.rows.now i.result c.requires.honest.0 c.requires.honest.1 c.requires.places.0 c.requires.places.1 i.is b.ensures.value b.ensures.within; fits = part_fits v.bytes s.n c.args.party b.result c.args.records.now c.args.rows.now i.result c.requires.honest.0 c.requires.honest.1 c.requires.places.0 c.requires.places.1 i.is b.ensures.value b.ensures.within (one_fits (ring_of v.bytes s c.args.records.now c.args.rows.now [] 0) c.requires.fit c.args.party c.requires.honest.0 c.requires.honest.1 c.requires.honest.2); early = part_early v.bytes s.n c.args.party b.result c.args.records.now c.args.rows.now i.result c.requires.honest.0 c.requires.honest.1 c.requires.places.0 c.requires.places.1 i.is b.ensures.value b.ensures.within c.requires.early; room = c.requires.room }
 
 pub returns : goal.returns
 returns g c =
-    let v = g.row.V-Value in
+    let v = g.V.Value in
     let s = c.args.ring.now in
-    let b = c.base-of-base in
+    let b = c.base_of-base in
     let i = c.index-records-party in
     let whole = part_whole v.bytes s.n c.args.party b.result c.args.records.now c.args.rows.now i.result c.requires.honest.0 c.requires.honest.1 c.requires.places.0 c.requires.places.1 i.is b.ensures.value b.ensures.within in
     let s0 = ring_of v.bytes s c.args.records.now c.args.rows.now (g.W.Wire.waiting c.args.wire.now) (g.W.Wire.capacity c.args.wire.now) in

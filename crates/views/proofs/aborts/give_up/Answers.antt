@@ -11,21 +11,21 @@ use Rattle.views.proofs.Ways.{abort_joined, abort_not_joined, view_left, view-ke
 use Rattle.views.specs.Timer.{timed_out}
 use Rattle.views.proofs.aborts.give_up.Goals as goal
 
-pub tell-abort-requires : goal.tell-abort-requires
-tell-abort-requires g c =
-    let v = g.row.V-Value in
+pub tell_abort-requires : goal.tell_abort-requires
+tell_abort-requires g c =
+    let v = g.V.Value in
     let s = setting_of v.width v.allows c.args.seat in
     let me = c.args.seat.me in
     let p = party_of v.bytes c.args.own.now c.args.rows.now in
     record {
       whole = c.requires.whole;
-      taken = takes_same _ _ (passed _ _ _ (sym (lt-ltb _ _ c.if-row-own.true) ∙ ap (λ r. ltb r.abort c.args.own.now.view) c.row-from-row.ensures)) c.requires.taken;
+      taken = takes_same _ _ (passed _ _ _ (sym (lt-ltb _ _ c.if-row-own.true) ∙ ap (λ r. ltb r.abort c.args.own.now.view) c.row_from-row.ensures)) c.requires.taken;
     }
 
 pub returns-then-row-own : goal.returns-then-row-own
 returns-then-row-own g c =
-    does_same _ _ _ (sym (passed _ _ _ (sym (lt-ltb _ _ c.if-row-own.true) ∙ ap (λ r. ltb r.abort c.args.own.now.view) c.row-from-row.ensures))) c.tell-abort.ensures
+    does_same _ _ _ (sym (passed _ _ _ (sym (lt-ltb _ _ c.if-row-own.true) ∙ ap (λ r. ltb r.abort c.args.own.now.view) c.row_from-row.ensures))) c.tell_abort.ensures
 
 pub returns-else-row-own : goal.returns-else-row-own
 returns-else-row-own g c =
-    does_same _ _ _ (sym (failed _ _ _ (sym (le-ltb _ _ c.if-row-own.false) ∙ ap (λ r. ltb r.abort c.args.own.now.view) c.row-from-row.ensures))) (does_nothing _)
+    does_same _ _ _ (sym (failed _ _ _ (sym (le-ltb _ _ c.if-row-own.false) ∙ ap (λ r. ltb r.abort c.args.own.now.view) c.row_from-row.ensures))) (does_nothing _)

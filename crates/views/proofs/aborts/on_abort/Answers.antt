@@ -11,50 +11,50 @@ use Rattle.views.proofs.Ways.{abort_joined, abort_not_joined, view_left, view-ke
 use Rattle.views.specs.Timer.{timed_out}
 use Rattle.views.proofs.aborts.on_abort.Goals as goal
 
-pub follow-abort-aborts-requires : goal.follow-abort-aborts-requires
-follow-abort-aborts-requires g c =
-    let v = g.row.V-Value in
+pub follow_abort-aborts-requires : goal.follow_abort-aborts-requires
+follow_abort-aborts-requires g c =
+    let v = g.V.Value in
     let s = setting_of v.width v.allows c.args.seat in
     let me = c.args.seat.me in
     let p = party_of v.bytes c.args.own.now c.args.rows.now in
     let m = message v.bytes c.args.m.now in
     let with_rows : (ℕ → Row) → Party = λ r. record { rec = record_of v.bytes c.args.own.now; rows = r } in
-    let q = party_of v.bytes c.args.own.now c.note-abort.new.rows in
-    let way = abort_both s me p m q _ _ (ap with_rows c.note-abort.ensures) c.max.ensures (ap (λ r. r.abort) c.row-from-row.ensures) in
+    let q = party_of v.bytes c.args.own.now c.note_abort.new.rows in
+    let way = abort_both s me p m q _ _ (ap with_rows c.note_abort.ensures) c.max.ensures (ap (λ r. r.abort) c.row_from-row.ensures) in
     record { whole = omega (arith, c.requires.whole.0); taken = takes_before (join_abort s me q) (leave s me) (takes_same _ _ way c.requires.taken) }
 
-pub leave-view-entries-requires : goal.leave-view-entries-requires
-leave-view-entries-requires g c =
-    let v = g.row.V-Value in
+pub leave_view-entries-requires : goal.leave_view-entries-requires
+leave_view-entries-requires g c =
+    let v = g.V.Value in
     let s = setting_of v.width v.allows c.args.seat in
     let me = c.args.seat.me in
     let p = party_of v.bytes c.args.own.now c.args.rows.now in
     let m = message v.bytes c.args.m.now in
     let with_rows : (ℕ → Row) → Party = λ r. record { rec = record_of v.bytes c.args.own.now; rows = r } in
-    let q = party_of v.bytes c.args.own.now c.note-abort.new.rows in
-    let way = abort_both s me p m q _ _ (ap with_rows c.note-abort.ensures) c.max.ensures (ap (λ r. r.abort) c.row-from-row.ensures) in
-    record { whole = omega (arith, c.requires.whole.0); taken = takes_after (join_abort s me q) (leave s me) _ (takes_same _ _ way c.requires.taken) c.follow-abort-aborts.ensures }
+    let q = party_of v.bytes c.args.own.now c.note_abort.new.rows in
+    let way = abort_both s me p m q _ _ (ap with_rows c.note_abort.ensures) c.max.ensures (ap (λ r. r.abort) c.row_from-row.ensures) in
+    record { whole = omega (arith, c.requires.whole.0); taken = takes_after (join_abort s me q) (leave s me) _ (takes_same _ _ way c.requires.taken) c.follow_abort-aborts.ensures }
 
-pub overflow-add-result : goal.overflow-add-result
-overflow-add-result g c =
-    let v = g.row.V-Value in
+pub overflow_add-result : goal.overflow_add-result
+overflow_add-result g c =
+    let v = g.V.Value in
     let s = setting_of v.width v.allows c.args.seat in
     let me = c.args.seat.me in
     let p = party_of v.bytes c.args.own.now c.args.rows.now in
     let m = message v.bytes c.args.m.now in
     let with_rows : (ℕ → Row) → Party = λ r. record { rec = record_of v.bytes c.args.own.now; rows = r } in
-    let q = party_of v.bytes c.args.own.now c.note-abort.new.rows in
-    let way = abort_both s me p m q _ _ (ap with_rows c.note-abort.ensures) c.max.ensures (ap (λ r. r.abort) c.row-from-row.ensures) in
-    omega (arith, steps_fit (join_abort s me q) (leave s me) _ _ (takes_same _ _ way c.requires.taken) c.follow-abort-aborts.ensures c.leave-view-entries.ensures)
+    let q = party_of v.bytes c.args.own.now c.note_abort.new.rows in
+    let way = abort_both s me p m q _ _ (ap with_rows c.note_abort.ensures) c.max.ensures (ap (λ r. r.abort) c.row_from-row.ensures) in
+    omega (arith, steps_fit (join_abort s me q) (leave s me) _ _ (takes_same _ _ way c.requires.taken) c.follow_abort-aborts.ensures c.leave_view-entries.ensures)
 
 pub returns : goal.returns
 returns g c =
-    let v = g.row.V-Value in
+    let v = g.V.Value in
     let s = setting_of v.width v.allows c.args.seat in
     let me = c.args.seat.me in
     let p = party_of v.bytes c.args.own.now c.args.rows.now in
     let m = message v.bytes c.args.m.now in
     let with_rows : (ℕ → Row) → Party = λ r. record { rec = record_of v.bytes c.args.own.now; rows = r } in
-    let q = party_of v.bytes c.args.own.now c.note-abort.new.rows in
-    let way = abort_both s me p m q _ _ (ap with_rows c.note-abort.ensures) c.max.ensures (ap (λ r. r.abort) c.row-from-row.ensures) in
-    does_same _ _ _ (sym way) (does_both (join_abort s me q) (leave s me) _ _ c.follow-abort-aborts.ensures c.leave-view-entries.ensures)
+    let q = party_of v.bytes c.args.own.now c.note_abort.new.rows in
+    let way = abort_both s me p m q _ _ (ap with_rows c.note_abort.ensures) c.max.ensures (ap (λ r. r.abort) c.row_from-row.ensures) in
+    does_same _ _ _ (sym way) (does_both (join_abort s me q) (leave s me) _ _ c.follow_abort-aborts.ensures c.leave_view-entries.ensures)

@@ -13,6 +13,6 @@ use Rattle.views.proofs.aborts.tell_abort.Goals as goal
 
 pub returns : goal.returns
 returns g c =
-    let v = g.row.V-Value in
+    let v = g.V.Value in
     let with_rows : (ℕ → Row) → Party = λ r. record { rec = record_of v.bytes c.args.own.now; rows = r } in
-    record { party = ap with_rows c.note-abort.ensures; posts = c.send-view-posts.ensures }
+    record { party = ap with_rows c.note_abort.ensures; posts = c.send_view-posts.ensures }

@@ -6,9 +6,9 @@ use Rattle.views.proofs.start.empty_rows.Goals as goal
 
 pub loop-row-preserved : goal.loop-row-preserved
 loop-row-preserved g c =
-    map_over_more (λ _. blank_row g.row.V-Value.bytes) c.args.rows.now c.loop-row.rows c.loop-row.row-index c.row-item.result c.loop-row-test.true c.loop-row.invariant c.row-item.is
+    map_over_more (λ _. blank_row g.V.Value.bytes) c.args.rows.now c.loop-row.rows c.loop-row.row-index c.row-item.result c.loop-row-test.true c.loop-row.invariant c.row-item.is
 
 pub returns : goal.returns
 returns g c =
-    all_blank g.row.V-Value.bytes c.args.rows.now c.loop-row.rows
-    (wholly_mapped (λ _. blank_row g.row.V-Value.bytes) c.args.rows.now c.loop-row.rows c.loop-row.row-index c.loop-row-test.false c.loop-row.invariant)
+    all_blank g.V.Value.bytes c.args.rows.now c.loop-row.rows
+    (wholly_mapped (λ _. blank_row g.V.Value.bytes) c.args.rows.now c.loop-row.rows c.loop-row.row-index c.loop-row-test.false c.loop-row.invariant)

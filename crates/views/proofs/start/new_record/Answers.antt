@@ -7,7 +7,7 @@ use Rattle.views.proofs.start.new_record.Goals as goal
 
 pub returns : goal.returns
 returns g c =
-    let x = g.row.V-Value.bytes c.args.value.now in
+    let x = g.V.Value.bytes c.args.value.now in
     let made : (ℕ → Keyed) → (ℕ → Option ℕ) → Record = with_field (newcomer x).rec in
     let before : ℕ → Option ℕ = λ j. cond (eqb j 6) None (cond (eqb j 7) None None) in
     ap (λ f. made f before) (fun_ext (four_alike x)) ∙ ap (made (first_field x)) (fun_ext no_previous)

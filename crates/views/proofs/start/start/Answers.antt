@@ -12,19 +12,19 @@ use Rattle.views.proofs.start.start.Goals as goal
 
 pub enter-requires : goal.enter-requires
 enter-requires g c =
-    let v = g.row.V-Value in
+    let v = g.V.Value in
     let laws = g.met.V.Value in
     let s = setting_of v.width v.allows c.args.seat in
     let me = c.args.seat.me in
     let n = c.args.seat.n in
     let x = v.bytes c.args.value.now in
-    let q = party_of v.bytes c.new-record.result c.empty-rows.new.rows in
-    let new : q ≡ newcomer x = two_parts _ _ _ _ c.new-record.ensures c.empty-rows.ensures in
+    let q = party_of v.bytes c.new_record.result c.empty_rows.new.rows in
+    let new : q ≡ newcomer x = two_parts _ _ _ _ c.new_record.ensures c.empty_rows.ensures in
     let seated : Seated v.valid s me = record { blank = laws.blank_valid; size = c.args.seat.most; low = c.args.seat.first; high = c.args.seat.last } in
     let fits : Fits v.valid s (newcomer x) =
     record {
       numbers = newcomer_fits x n;
-      values = ap (values_fit v.valid v.width n) (sym new) ∙ all_values v.bytes v.valid v.width laws.sized laws.sound c.new-record.result c.empty-rows.new.rows n;
+      values = ap (values_fit v.valid v.width n) (sym new) ∙ all_values v.bytes v.valid v.width laws.sized laws.sound c.new_record.result c.empty_rows.new.rows n;
     } in
     let way = ap (λ p. enter s me p 1) (sym new) in
     record {
@@ -35,19 +35,19 @@ enter-requires g c =
 
 pub returns : goal.returns
 returns g c =
-    let v = g.row.V-Value in
+    let v = g.V.Value in
     let laws = g.met.V.Value in
     let s = setting_of v.width v.allows c.args.seat in
     let me = c.args.seat.me in
     let n = c.args.seat.n in
     let x = v.bytes c.args.value.now in
-    let q = party_of v.bytes c.new-record.result c.empty-rows.new.rows in
-    let new : q ≡ newcomer x = two_parts _ _ _ _ c.new-record.ensures c.empty-rows.ensures in
+    let q = party_of v.bytes c.new_record.result c.empty_rows.new.rows in
+    let new : q ≡ newcomer x = two_parts _ _ _ _ c.new_record.ensures c.empty_rows.ensures in
     let seated : Seated v.valid s me = record { blank = laws.blank_valid; size = c.args.seat.most; low = c.args.seat.first; high = c.args.seat.last } in
     let fits : Fits v.valid s (newcomer x) =
     record {
       numbers = newcomer_fits x n;
-      values = ap (values_fit v.valid v.width n) (sym new) ∙ all_values v.bytes v.valid v.width laws.sized laws.sound c.new-record.result c.empty-rows.new.rows n;
+      values = ap (values_fit v.valid v.width n) (sym new) ∙ all_values v.bytes v.valid v.width laws.sized laws.sound c.new_record.result c.empty_rows.new.rows n;
     } in
     let way = ap (λ p. enter s me p 1) (sym new) in
     let done = does_same _ _ _ (sym way) c.enter.ensures in

@@ -9,12 +9,12 @@ use Rattle.posting.proofs.Steps.{takes_same, takes_before, takes_after, does_sam
 use Rattle.posting.proofs.Choosing.{passed, failed}
 use Rattle.voting.proofs.dones.follow_done.Goals as goal
 
-pub tell-done-requires : goal.tell-done-requires
-tell-done-requires g c =
-    record { whole = c.requires.whole; taken = takes_same _ _ (passed _ _ _ c.if-due-by-dones.ensures) c.requires.taken }
+pub tell_done-requires : goal.tell_done-requires
+tell_done-requires g c =
+    record { whole = c.requires.whole; taken = takes_same _ _ (passed _ _ _ c.if-due_by_dones.ensures) c.requires.taken }
 
-pub returns-then-due-by-dones : goal.returns-then-due-by-dones
-returns-then-due-by-dones g c = does_same _ _ _ (sym (passed _ _ _ c.if-due-by-dones.ensures)) c.tell-done.ensures
+pub returns-then-due_by_dones : goal.returns-then-due_by_dones
+returns-then-due_by_dones g c = does_same _ _ _ (sym (passed _ _ _ c.if-due_by_dones.ensures)) c.tell_done.ensures
 
-pub returns-else-due-by-dones : goal.returns-else-due-by-dones
-returns-else-due-by-dones g c = does_same _ _ _ (sym (failed _ _ _ c.if-due-by-dones.ensures)) (does_nothing _)
+pub returns-else-due_by_dones : goal.returns-else-due_by_dones
+returns-else-due_by_dones g c = does_same _ _ _ (sym (failed _ _ _ c.if-due_by_dones.ensures)) (does_nothing _)

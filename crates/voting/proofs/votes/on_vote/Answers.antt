@@ -12,30 +12,30 @@ use Rattle.voting.proofs.votes.on_vote.Goals as goal
 
 pub announce-requires : goal.announce-requires
 announce-requires g c =
-    let v = g.row.V-Value in
+    let v = g.V.Value in
     let s = setting_of v.width v.allows c.args.seat in
     let p = party_of v.bytes c.args.own.now c.args.rows.now in
     let m = message v.bytes c.args.m.now in
     let with_rows : (ℕ → Row) → Party = λ r. record { rec = record_of v.bytes c.args.own.now; rows = r } in
     record {
       whole = (omega (arith, c.requires.whole.0), omega (arith, c.requires.whole), omega (arith, c.requires.whole));
-      taken = takes_same _ _ (vote_announced s c.args.seat.me p m _ (ap with_rows c.note-vote.ensures) c.if-announce-due.ensures) c.requires.taken;
+      taken = takes_same _ _ (vote_announced s c.args.seat.me p m _ (ap with_rows c.note_vote.ensures) c.if-announce_due.ensures) c.requires.taken;
     }
 
-pub returns-then-announce-due : goal.returns-then-announce-due
-returns-then-announce-due g c =
-    let v = g.row.V-Value in
+pub returns-then-announce_due : goal.returns-then-announce_due
+returns-then-announce_due g c =
+    let v = g.V.Value in
     let s = setting_of v.width v.allows c.args.seat in
     let p = party_of v.bytes c.args.own.now c.args.rows.now in
     let m = message v.bytes c.args.m.now in
     let with_rows : (ℕ → Row) → Party = λ r. record { rec = record_of v.bytes c.args.own.now; rows = r } in
-    does_same _ _ _ (sym (vote_announced s c.args.seat.me p m _ (ap with_rows c.note-vote.ensures) c.if-announce-due.ensures)) c.announce.ensures
+    does_same _ _ _ (sym (vote_announced s c.args.seat.me p m _ (ap with_rows c.note_vote.ensures) c.if-announce_due.ensures)) c.announce.ensures
 
-pub returns-else-announce-due : goal.returns-else-announce-due
-returns-else-announce-due g c =
-    let v = g.row.V-Value in
+pub returns-else-announce_due : goal.returns-else-announce_due
+returns-else-announce_due g c =
+    let v = g.V.Value in
     let s = setting_of v.width v.allows c.args.seat in
     let p = party_of v.bytes c.args.own.now c.args.rows.now in
     let m = message v.bytes c.args.m.now in
     let with_rows : (ℕ → Row) → Party = λ r. record { rec = record_of v.bytes c.args.own.now; rows = r } in
-    does_same _ _ _ (sym (vote-still s c.args.seat.me p m _ (ap with_rows c.note-vote.ensures) c.if-announce-due.ensures)) (does_nothing _)
+    does_same _ _ _ (sym (vote-still s c.args.seat.me p m _ (ap with_rows c.note_vote.ensures) c.if-announce_due.ensures)) (does_nothing _)

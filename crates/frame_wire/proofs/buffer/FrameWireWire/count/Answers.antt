@@ -6,8 +6,8 @@ use Rattle.frame_wire.proofs.buffer.FrameWireWire.count.Goals as goal
 
 pub returns : goal.returns
 returns g c =
-    let v = g.row.V-Value in
+    let v = g.V.Value in
     let b = c.args.self.now.buffer.now in
     let n = c.args.self.now.count in
     let l = length_listing (frame_length v.width) (heard v.valid v.width) n b in
-    record { value = omega (arith, l, c.min.ensures, c.places-of.ensures); within = omega (arith, l); ranged = all_listed v.valid v.width n b g.met.V.Value.blank_valid }
+    record { value = omega (arith, l, c.min.ensures, c.places_of.ensures); within = omega (arith, l); ranged = all_listed v.valid v.width n b g.met.V.Value.blank_valid }

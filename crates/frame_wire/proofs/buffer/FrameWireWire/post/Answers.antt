@@ -10,21 +10,21 @@ use Rattle.frame_wire.specs.Buffer.{places, heard, frames_in}
 use Rattle.frame_wire.proofs.Slots.{length_listing, listing_more, fits_at}
 use Rattle.frame_wire.proofs.buffer.FrameWireWire.post.Goals as goal
 
-pub returns-then-count-places-of : goal.returns-then-count-places-of
-returns-then-count-places-of g c =
-    let v = g.row.V-Value in
+pub returns-then-count-places_of : goal.returns-then-count-places_of
+returns-then-count-places_of g c =
+    let v = g.V.Value in
     let b = c.args.self.now.buffer.now in
     let n = c.args.self.now.count in
     let most = places v.width b in
     let xs = frames_in v.valid v.width n b in
     let m = message v.bytes c.args.m.now in
-    let ok = c.if-not-in-range.ensures in
-    let full : most ≤ length xs = omega (arith, length_listing (frame_length v.width) (heard v.valid v.width) n b, c.places-of.ensures, c.if-count-places-of.true) in
+    let ok = c.if-not-in_range.ensures in
+    let full : most ≤ length xs = omega (arith, length_listing (frame_length v.width) (heard v.valid v.width) n b, c.places_of.ensures, c.if-count-places_of.true) in
     record { kept = refl; test = full_test v.valid v.width most xs m ok full; value = full_answer v.valid v.width most xs m ok full; after = full_after v.valid v.width most xs m ok full }
 
 pub returns : goal.returns
 returns g c =
-    let v = g.row.V-Value in
+    let v = g.V.Value in
     let b = c.args.self.now.buffer.now in
     let n = c.args.self.now.count in
     let most = places v.width b in
@@ -32,8 +32,8 @@ returns g c =
     let hear = heard v.valid v.width in
     let xs = frames_in v.valid v.width n b in
     let m = message v.bytes c.args.m.now in
-    let ok = c.if-not-in-range.ensures in
-    let room : n < most = omega (arith, c.places-of.ensures, c.if-count-places-of.false) in
+    let ok = c.if-not-in_range.ensures in
+    let room : n < most = omega (arith, c.places_of.ensures, c.if-count-places_of.false) in
     let free : length xs < most = omega (arith, length_listing size hear n b, room) in
     let fl = frame_length_stands v.valid v.width m (sym ok) in
     let back = ap (λ o. unwrap_or o (fixed_request v.width)) (reads_back v.valid v.width m (sym ok)) in

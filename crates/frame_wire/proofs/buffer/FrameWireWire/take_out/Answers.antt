@@ -9,17 +9,17 @@ use Rattle.frame_wire.proofs.buffer.FrameWireWire.take_out.Goals as goal
 
 pub returns-then-i-count : goal.returns-then-i-count
 returns-then-i-count g c =
-    let v = g.row.V-Value in
+    let v = g.V.Value in
     let b = c.args.self.now.buffer.now in
     let n = c.args.self.now.count in
     let xs = frames_in v.valid v.width n b in
-    let e = c.min-count.ensures ∙ (ap (min n) c.places-of.ensures ∙ sym (length_listing (frame_length v.width) (heard v.valid v.width) n b)) in
+    let e = c.min-count.ensures ∙ (ap (min n) c.places_of.ensures ∙ sym (length_listing (frame_length v.width) (heard v.valid v.width) n b)) in
     let past : length xs ≤ c.args.i = omega (arith, e, c.if-i-count.true) in
     record { kept = refl; test = no_place xs c.args.i past; value = looked_past xs c.args.i past; ranged = tt; after = taken_past xs c.args.i past }
 
 pub returns : goal.returns
 returns g c =
-    let v = g.row.V-Value in
+    let v = g.V.Value in
     let b = c.args.self.now.buffer.now in
     let n = c.args.self.now.count in
     let i = c.args.i in
@@ -28,7 +28,7 @@ returns g c =
     let size = frame_length v.width in
     let hear = heard v.valid v.width in
     let xs = frames_in v.valid v.width n b in
-    let e₀ = c.min-count.ensures ∙ ap (min n) c.places-of.ensures in
+    let e₀ = c.min-count.ensures ∙ ap (min n) c.places_of.ensures in
     let whole : count ≤ places v.width b = omega (arith, e₀) in
     let here : i < length xs = omega (arith, e₀, length_listing size hear n b, h) in
     let kept : (new : List ℕ) → new ≡ closed size b i count → places v.width new ≡ places v.width b = λ new k. ap (λ l. l / size) (ap length k ∙ length-closed size b i count h whole) in

@@ -11,14 +11,14 @@ returns-then-self c =
     let n = none_left s.sheet.now s.at s.passed s.along c.if-self.true in
     record { same = refl; cases = (get_or_past _ _ _ n, refl) }
 
-pub invariant-of-self : goal.invariant-of-self
-invariant-of-self c =
+pub invariant_of-self : goal.invariant_of-self
+invariant_of-self c =
     let s = c.args.self.now in
     let p = last_line s.sheet.now _ s.at s.passed s.along (take_rest s.sheet.now s.at) c.in-None.ensures c.if-self.false in
     (omega arith, (omega (arith, s.counted), (p.1, tt)))
 
-pub invariant-of-self-in-Some : goal.invariant-of-self-in-Some
-invariant-of-self-in-Some c =
+pub invariant_of-self-in-Some : goal.invariant_of-self-in-Some
+invariant_of-self-in-Some c =
     let s = c.args.self.now in
     let h = c.in-Some.ensures in
     let rest = take (length s.sheet.now - s.at) (drop s.at s.sheet.now) in
@@ -29,8 +29,8 @@ invariant-of-self-in-Some c =
     let a : Along s.sheet.now (s.at + (length c.in-Some.halves.front.now + 1)) (s.passed + 1) = subst (λ n. Along s.sheet.now (s.at + (n + 1)) (s.passed + 1)) (sym f) p.1 in
     (omega arith, (omega (arith, s.counted), (a, tt)))
 
-pub returns-then-self-gt-MOST-BYTES : goal.returns-then-self-gt-MOST-BYTES
-returns-then-self-gt-MOST-BYTES c =
+pub returns-then-self-gt-MOST_BYTES : goal.returns-then-self-gt-MOST_BYTES
+returns-then-self-gt-MOST_BYTES c =
     let s = c.args.self.now in
     let h = c.in-Some.ensures in
     let rest = take (length s.sheet.now - s.at) (drop s.at s.sheet.now) in
@@ -38,8 +38,8 @@ returns-then-self-gt-MOST-BYTES c =
     let f = ap length h.1.0 in
     record { same = refl; cases = (p.0 ∙ kept_not s.at (before 10 rest) (omega arith), refl) }
 
-pub returns-then-text-gt-MOST-IN-LINE : goal.returns-then-text-gt-MOST-IN-LINE
-returns-then-text-gt-MOST-IN-LINE c =
+pub returns-then-text-gt-MOST_IN_LINE : goal.returns-then-text-gt-MOST_IN_LINE
+returns-then-text-gt-MOST_IN_LINE c =
     let s = c.args.self.now in
     let h = c.in-Some.ensures in
     let rest = take (length s.sheet.now - s.at) (drop s.at s.sheet.now) in
@@ -53,8 +53,8 @@ returns-in-None c =
     let p = last_line s.sheet.now _ s.at s.passed s.along (take_rest s.sheet.now s.at) c.in-None.ensures c.if-self.false in
     record { same = refl; cases = (p.0, refl) }
 
-pub returns-else-text-gt-MOST-IN-LINE : goal.returns-else-text-gt-MOST-IN-LINE
-returns-else-text-gt-MOST-IN-LINE c =
+pub returns-else-text-gt-MOST_IN_LINE : goal.returns-else-text-gt-MOST_IN_LINE
+returns-else-text-gt-MOST_IN_LINE c =
     let s = c.args.self.now in
     let h = c.in-Some.ensures in
     let rest = take (length s.sheet.now - s.at) (drop s.at s.sheet.now) in

@@ -6,7 +6,7 @@ use Rattle.table_wire.proofs.table.TableWireWire.count.Goals as goal
 
 pub returns : goal.returns
 returns g c =
-    let v = g.row.V-Value in
+    let v = g.V.Value in
     let t = c.args.self.now.table.now in
     let n = c.args.self.now.count in
     let l = length_front (entry v.valid v.width v.bytes) t n in

@@ -9,6 +9,6 @@ returns-then-i-self g c = search (rules, length_front, looked_past, no_place)
 
 pub returns : goal.returns
 returns g c =
-    let v = g.row.V-Value in
-    let fair = entry-ranged v.valid v.width g.met.V.Value.blank_valid v.bytes c.args.self.now.table.now _ (message v.bytes c.entry-at.result) c.entry-at.ensures in
+    let v = g.V.Value in
+    let fair = entry-ranged v.valid v.width g.met.V.Value.blank_valid v.bytes c.args.self.now.table.now _ (message v.bytes c.entry_at.result) c.entry_at.ensures in
     search (rules, length_front, looked_front, a_place, fair)

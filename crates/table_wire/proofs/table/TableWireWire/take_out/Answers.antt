@@ -13,7 +13,7 @@ use Rattle.table_wire.proofs.table.TableWireWire.take_out.Goals as goal
 
 pub returns-then-i-count : goal.returns-then-i-count
 returns-then-i-count g c =
-    let v = g.row.V-Value in
+    let v = g.V.Value in
     let t = c.args.self.now.table.now in
     let n = c.args.self.now.count in
     let xs = entries v.valid v.width v.bytes n t in
@@ -22,7 +22,7 @@ returns-then-i-count g c =
 
 pub returns : goal.returns
 returns g c =
-    let v = g.row.V-Value in
+    let v = g.V.Value in
     let t = c.args.self.now.table.now in
     let n = c.args.self.now.count in
     let i = c.args.i in

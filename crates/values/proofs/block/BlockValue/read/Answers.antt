@@ -7,5 +7,5 @@ use Rattle.values.proofs.block.BlockValue.read.Goals as goal
 pub returns : goal.returns
 returns c =
     let bs = c.args.from.now in
-    let u : AllBelowBase 256 bs = All-from_get_or (λ b. b < 256) bs 0 (λ i h. omega (arith, c.type-inv.from i)) in
+    let u : AllBelowBase 256 bs = All-from_get_or (λ b. b < 256) bs 0 (λ i h. omega (arith, c.type_inv.from i)) in
     search (rules, block_back)
