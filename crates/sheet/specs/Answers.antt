@@ -13,6 +13,6 @@ LinesStopped r passed (Sheet f) = r ≡ Err (fault_line passed f)
 LinesStopped r passed Memory = Unit {0}
 
 -- the same, with the number of the line
-abbrev pub NoCalls : Result Meaning ℕ → NoCalls → Type 0
-NoCalls r (none.Unreadable u) = (r ≡ Err u.line) × (fault_number u.fault ≡ 8)
-NoCalls r none.Memory = Unit {0}
+abbrev pub HasNoCalls : Result Meaning ℕ → NoCalls → Type 0
+HasNoCalls r (none.Unreadable u) = (r ≡ Err u.line) × (fault_number u.fault ≡ 8)
+HasNoCalls r none.Memory = Unit {0}

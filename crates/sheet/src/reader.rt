@@ -4,7 +4,7 @@ ghost use Rattle.sheet_lines.specs.Faults.{fault_line, fault_number};
 ghost use Rattle.sheet.specs.Sheets.{sheet_means, setting_of, calls_of};
 ghost use Rattle.sheet.specs.Plans.{PlanMeant};
 ghost use Rattle.sheet.specs.declared.calls.CallsFault.TheVariants.{Sheet, Memory};
-ghost use Rattle.sheet.specs.Answers.{NoCalls, LinesStopped};
+ghost use Rattle.sheet.specs.Answers.{HasNoCalls, LinesStopped};
 
 use crate::calls::{CallsFault, pass_calls, take_calls};
 use crate::fault::{NoCalls, Unreadable};
@@ -61,7 +61,7 @@ fn collect(heap: Global, cursor: &mut Cursor) -> Result<Vec<Call>, CallsFault>
 
 // The calls of a readable sheet, in order; else the first line at fault, or want of memory.
 pub fn calls(heap: Global, sheet: &[u8]) -> Result<Vec<Call>, NoCalls>
-    ensures { MatchResult result (λ v. calls_of (sheet_means sheet.now) ≡ Ok v.items) (NoCalls (sheet_means sheet.now)) }
+    ensures { MatchResult result (λ v. calls_of (sheet_means sheet.now) ≡ Ok v.items) (HasNoCalls (sheet_means sheet.now)) }
 {
     let mut cursor = Cursor::new(sheet);
     match collect(heap, &mut cursor) {

@@ -8,7 +8,7 @@ use Rattle.sheet.proofs.calls.pass_calls.Goals as goal
 
 pub returns-in_err-take_call : goal.returns-in_err-take_call
 returns-in_err-take_call c =
-    let p = err_from_is_err_and c.from-residual.result c.from-residual.ensures.1 in
+    let p = err_from_is_err_and c.from_residual.result c.from_residual.ensures.1 in
     let v = c.loop-cursor.invariant in
     let b = c.in_err-take_call.ensures in
     let t = leb-false _ _ (sym c.loop-cursor-test.ensures) in

@@ -9,7 +9,7 @@ use Rattle.sheet.proofs.calls.take_calls.Goals as goal
 
 pub returns-in_err-call : goal.returns-in_err-call
 returns-in_err-call c =
-    let p = err_from_is_err_and c.from-residual.result c.from-residual.ensures.1 in
+    let p = err_from_is_err_and c.from_residual.result c.from_residual.ensures.1 in
     let v = c.loop-cursor.invariant in
     let b = c.in_err-call.ensures in
     let t = leb-false _ _ (sym c.loop-cursor-test.ensures) in

@@ -7,7 +7,7 @@ use Rattle.sheet.proofs.owns.take_owns.Goals as goal
 
 pub returns-in_err-own : goal.returns-in_err-own
 returns-in_err-own g c =
-    let p = err_from_is_err_and c.from-residual.result c.from-residual.ensures.1 in
+    let p = err_from_is_err_and c.from_residual.result c.from_residual.ensures.1 in
     let v = c.loop-i.invariant in
     let b = c.in_err-own.ensures in
     let h = own_stops g.V.SheetValue.reads (replicate g.V.Value.width 0) c.loop-i.cursor.sheet.now c.args.cursor.now.sheet.now
@@ -15,8 +15,8 @@ returns-in_err-own g c =
     v.1 v.2 c.loop-i-test.true v.4 b.value in
     record {
       same = b.same ∙ v.1;
-      passed = IfOk-from_err c.from-residual.result _ c.from-residual.ensures.0;
-      rest = IfOk-from_err c.from-residual.result _ c.from-residual.ensures.0;
+      passed = IfOk-from_err c.from_residual.result _ c.from_residual.ensures.0;
+      rest = IfOk-from_err c.from_residual.result _ c.from_residual.ensures.0;
       value = ap (outcome_as _ _) (p.1 ∙ ap Err p.2) ∙ h;
     }
 

@@ -14,7 +14,7 @@ returns-in_err-parties c =
     let e = kind_at s c.args.cursor.now.passed (Ok c.in_ok-kind.kind) c.requires k.value in
     let n = c.in_err-parties.ensures in
     let f = count_at c.take_kind.new.cursor.sheet.now s c.take_kind.new.cursor.passed _ k.same (omega (arith, k.passed, c.requires)) n.value in
-    let p = err_from_is_err_and c.from-residual-in_err-parties.result c.from-residual-in_err-parties.ensures.1 in
+    let p = err_from_is_err_and c.from_residual-in_err-parties.result c.from_residual-in_err-parties.ensures.1 in
     record { same = n.same ∙ k.same; value = rw (p.1, p.2) (stop_count (lines s) c.in_ok-kind.kind _ e f) }
 
 pub returns-in_err-faults : goal.returns-in_err-faults
@@ -26,7 +26,7 @@ returns-in_err-faults c =
     let f = count_at c.take_kind.new.cursor.sheet.now s c.take_kind.new.cursor.passed (Ok c.in_ok-parties.parties) k.same (omega (arith, k.passed, c.requires)) n.value in
     let a = c.in_err-faults.ensures in
     let g = sym (ap (λ t. fault_lines (lines t) c.in_ok-parties.parties) (n.same ∙ k.same)) ∙ a.value in
-    let p = err_from_is_err_and c.from-residual-in_err-faults.result c.from-residual-in_err-faults.ensures.1 in
+    let p = err_from_is_err_and c.from_residual-in_err-faults.result c.from_residual-in_err-faults.ensures.1 in
     record { same = a.same ∙ (n.same ∙ k.same); value = rw (p.1, p.2) (stop_faults (lines s) c.in_ok-kind.kind c.in_ok-parties.parties _ e f g) }
 
 pub read_setup-requires : goal.read_setup-requires
@@ -38,8 +38,8 @@ read_setup-requires c =
     let f = count_at c.take_kind.new.cursor.sheet.now s c.take_kind.new.cursor.passed (Ok c.in_ok-parties.parties) k.same (omega (arith, k.passed, c.requires)) n.value in
     (lit< tt, count_small (line_after (lines s) 1) c.in_ok-parties.parties 2 f)
 
-pub returns-in_err-read_setup : goal.returns-in_err-read_setup
-returns-in_err-read_setup c =
+pub returns-in_err-read_setup-in-Blocks : goal.returns-in_err-read_setup-in-Blocks
+returns-in_err-read_setup-in-Blocks c =
     let s = c.args.cursor.now.sheet.now in
     let k = c.in_ok-kind.ensures in
     let e = kind_at s c.args.cursor.now.passed (Ok c.in_ok-kind.kind) c.requires k.value in
@@ -47,14 +47,14 @@ returns-in_err-read_setup c =
     let f = count_at c.take_kind.new.cursor.sheet.now s c.take_kind.new.cursor.passed (Ok c.in_ok-parties.parties) k.same (omega (arith, k.passed, c.requires)) n.value in
     let a = c.in_ok-faults.ensures in
     let g = sym (ap (λ t. fault_lines (lines t) c.in_ok-parties.parties) (n.same ∙ k.same)) ∙ a.value in
-    let b = c.in_err-read_setup.ensures in
+    let b = c.in_err-read_setup-in-Blocks.ensures in
     let same = a.same ∙ (n.same ∙ k.same) in
     let own = ap (λ t. own_list block_text (replicate 14 0) (lines t) c.in_ok-faults.faults.parties c.take_faults.new.cursor.passed c.in_ok-parties.parties) same in
-    let p = err_from_is_err_and c.from-residual-in_err-read_setup.result c.from-residual-in_err-read_setup.ensures.1 in
+    let p = err_from_is_err_and c.from_residual-in_err-read_setup-in-Blocks.result c.from_residual-in_err-read_setup-in-Blocks.ensures.1 in
     record { same = b.same ∙ same; value = rw (p.1, p.2) (stop_own (lines s) Blocks c.in_ok-parties.parties (fault_part c.in_ok-faults.faults.most c.in_ok-faults.faults.parties c.take_faults.new.cursor.passed) _ (e ∙ ap Ok c.in-Blocks.is) f g (sym (b.value ∙ own))) }
 
-pub returns-in_ok-read_setup : goal.returns-in_ok-read_setup
-returns-in_ok-read_setup c =
+pub returns-in_ok-read_setup-in-Blocks : goal.returns-in_ok-read_setup-in-Blocks
+returns-in_ok-read_setup-in-Blocks c =
     let s = c.args.cursor.now.sheet.now in
     let k = c.in_ok-kind.ensures in
     let e = kind_at s c.args.cursor.now.passed (Ok c.in_ok-kind.kind) c.requires k.value in
@@ -62,7 +62,7 @@ returns-in_ok-read_setup c =
     let f = count_at c.take_kind.new.cursor.sheet.now s c.take_kind.new.cursor.passed (Ok c.in_ok-parties.parties) k.same (omega (arith, k.passed, c.requires)) n.value in
     let a = c.in_ok-faults.ensures in
     let g = sym (ap (λ t. fault_lines (lines t) c.in_ok-parties.parties) (n.same ∙ k.same)) ∙ a.value in
-    let b = c.in_ok-read_setup.ensures in
+    let b = c.in_ok-read_setup-in-Blocks.ensures in
     let same = a.same ∙ (n.same ∙ k.same) in
     let own = ap (λ t. own_list block_text (replicate 14 0) (lines t) c.in_ok-faults.faults.parties c.take_faults.new.cursor.passed c.in_ok-parties.parties) same in
     let w = whole_part (lines s) Blocks c.in_ok-parties.parties (fault_part c.in_ok-faults.faults.most c.in_ok-faults.faults.parties c.take_faults.new.cursor.passed) _ (e ∙ ap Ok c.in-Blocks.is) f g (sym (b.value ∙ own)) in
@@ -77,8 +77,8 @@ read_setup-requires-in-Orders c =
     let f = count_at c.take_kind.new.cursor.sheet.now s c.take_kind.new.cursor.passed (Ok c.in_ok-parties.parties) k.same (omega (arith, k.passed, c.requires)) n.value in
     (lit< tt, count_small (line_after (lines s) 1) c.in_ok-parties.parties 2 f)
 
-pub returns-in_err-read_setup-2 : goal.returns-in_err-read_setup-2
-returns-in_err-read_setup-2 c =
+pub returns-in_err-read_setup-in-Orders : goal.returns-in_err-read_setup-in-Orders
+returns-in_err-read_setup-in-Orders c =
     let s = c.args.cursor.now.sheet.now in
     let k = c.in_ok-kind.ensures in
     let e = kind_at s c.args.cursor.now.passed (Ok c.in_ok-kind.kind) c.requires k.value in
@@ -86,14 +86,14 @@ returns-in_err-read_setup-2 c =
     let f = count_at c.take_kind.new.cursor.sheet.now s c.take_kind.new.cursor.passed (Ok c.in_ok-parties.parties) k.same (omega (arith, k.passed, c.requires)) n.value in
     let a = c.in_ok-faults.ensures in
     let g = sym (ap (λ t. fault_lines (lines t) c.in_ok-parties.parties) (n.same ∙ k.same)) ∙ a.value in
-    let b = c.in_err-read_setup-2.ensures in
+    let b = c.in_err-read_setup-in-Orders.ensures in
     let same = a.same ∙ (n.same ∙ k.same) in
     let own = ap (λ t. own_list order_text (replicate 3 0) (lines t) c.in_ok-faults.faults.parties c.take_faults.new.cursor.passed c.in_ok-parties.parties) same in
-    let p = err_from_is_err_and c.from-residual-in_err-read_setup-2.result c.from-residual-in_err-read_setup-2.ensures.1 in
+    let p = err_from_is_err_and c.from_residual-in_err-read_setup-in-Orders.result c.from_residual-in_err-read_setup-in-Orders.ensures.1 in
     record { same = b.same ∙ same; value = rw (p.1, p.2) (stop_own (lines s) Orders c.in_ok-parties.parties (fault_part c.in_ok-faults.faults.most c.in_ok-faults.faults.parties c.take_faults.new.cursor.passed) _ (e ∙ ap Ok c.in-Orders.is) f g (sym (b.value ∙ own))) }
 
-pub returns-in_ok-read_setup-2 : goal.returns-in_ok-read_setup-2
-returns-in_ok-read_setup-2 c =
+pub returns-in_ok-read_setup-in-Orders : goal.returns-in_ok-read_setup-in-Orders
+returns-in_ok-read_setup-in-Orders c =
     let s = c.args.cursor.now.sheet.now in
     let k = c.in_ok-kind.ensures in
     let e = kind_at s c.args.cursor.now.passed (Ok c.in_ok-kind.kind) c.requires k.value in
@@ -101,7 +101,7 @@ returns-in_ok-read_setup-2 c =
     let f = count_at c.take_kind.new.cursor.sheet.now s c.take_kind.new.cursor.passed (Ok c.in_ok-parties.parties) k.same (omega (arith, k.passed, c.requires)) n.value in
     let a = c.in_ok-faults.ensures in
     let g = sym (ap (λ t. fault_lines (lines t) c.in_ok-parties.parties) (n.same ∙ k.same)) ∙ a.value in
-    let b = c.in_ok-read_setup-2.ensures in
+    let b = c.in_ok-read_setup-in-Orders.ensures in
     let same = a.same ∙ (n.same ∙ k.same) in
     let own = ap (λ t. own_list order_text (replicate 3 0) (lines t) c.in_ok-faults.faults.parties c.take_faults.new.cursor.passed c.in_ok-parties.parties) same in
     let w = whole_part (lines s) Orders c.in_ok-parties.parties (fault_part c.in_ok-faults.faults.most c.in_ok-faults.faults.parties c.take_faults.new.cursor.passed) _ (e ∙ ap Ok c.in-Orders.is) f g (sym (b.value ∙ own)) in

@@ -1,8 +1,8 @@
 use Rattle.std.proofs.Common.{rules}
 use Rattle.std.proofs.lemmas.Slice.Eq.{slice_eq-Decides}
+use Rattle.std.proofs.lemmas.Bool.Decides.{Decides-eqb}
 use Rattle.values.proofs.Same.{equal-from-decides}
 use Rattle.sheet_fields.proofs.texts.is_text.Goals as goal
-use Rattle.std.proofs.lemmas.Bool.Decides.{Decides-eqb}
 
 pub returns : goal.returns
-returns c = let d = slice_eq-Decides Decides-eqb _ _ _ c.eq.ensures in search (rules, equal-from-decides)
+returns c = equal-from-decides c.eq.result c.args.s.now c.args.t.now (slice_eq-Decides Decides-eqb c.args.s.now c.args.t.now c.eq.result c.eq.ensures)

@@ -15,7 +15,7 @@ pub invariant_of-self : goal.invariant_of-self
 invariant_of-self c =
     let s = c.args.self.now in
     let p = last_line s.sheet.now _ s.at s.passed s.along (take_rest s.sheet.now s.at) c.in-None.ensures c.if-self.false in
-    (omega arith, (omega (arith, s.counted), (p.1, tt)))
+    record { within = omega arith; counted = omega (arith, s.counted); along = p.1 }
 
 pub invariant_of-self-in-Some : goal.invariant_of-self-in-Some
 invariant_of-self-in-Some c =
@@ -27,7 +27,7 @@ invariant_of-self-in-Some c =
     let w = line_within s.sheet.now rest s.at e h.0 in
     let f = ap length h.1.0 in
     let a : Along s.sheet.now (s.at + (length c.in-Some.halves.front.now + 1)) (s.passed + 1) = subst (λ n. Along s.sheet.now (s.at + (n + 1)) (s.passed + 1)) (sym f) p.1 in
-    (omega arith, (omega (arith, s.counted), (a, tt)))
+    record { within = omega arith; counted = omega (arith, s.counted); along = a }
 
 pub returns-then-self-gt-MOST_BYTES : goal.returns-then-self-gt-MOST_BYTES
 returns-then-self-gt-MOST_BYTES c =
