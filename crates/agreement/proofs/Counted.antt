@@ -1,9 +1,6 @@
 -- The three counts of every shift, together.
-use Rattle.std.proofs.Common.{◌≡◌, ℕ, List, take}
-use Rattle.agreement.specs.Ring.{Kind, Ring}
-use Rattle.agreement.specs.Calls.{said, Plan, set_up}
-use Rattle.agreement.specs.Runs.{Call}
-use Rattle.agreement.specs.Counts.{Counts, CountsHold}
+use Rattle.std.proofs.Common.{take}
+use Rattle.agreement.specs.Counts.{CountsHold}
 use Rattle.agreement.proofs.Decided.{one_value}
 use Rattle.agreement.proofs.NobodyLeft.{nobody_left}
 use Rattle.agreement.proofs.SaidOnce.{said_once}

@@ -1,5 +1,5 @@
 -- The log of a party against its record: kept by every part of a step, never unsaid, and what is new in it.
-use Rattle.std.proofs.Common.{◌≡◌, ℕ, zero, suc, ◌<◌, ◌≤◌, true, ◌⊎◌, List, Some, None, Option, refl, inr, arith}
+use Rattle.std.proofs.Common.{◌≡◌, ℕ, suc, ◌<◌, ◌≤◌, true, ◌⊎◌, List, Some, None, Option, refl, inr, arith}
 use Rattle.std.proofs.lemmas.Bool.Decides.{nat_tests}
 use Rattle.messages.specs.Messages.{Msg}
 use Rattle.rules.specs.Party.{Setting, Record, Party}

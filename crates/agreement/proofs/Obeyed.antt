@@ -1,10 +1,10 @@
 -- A call against the rules, case by case.
-use Rattle.std.proofs.Common.{◌≡◌, ℕ, zero, suc, ◌+◌, ◌-◌, ◌*◌, ◌<◌, ◌≤◌, Bool, true, false, cond, ◌&&◌, ltb, leb, List, [], ◌∷◌, ◌++◌, length, replicate, Ok, Err, Result, sym, refl, ap, ◌∙◌, subst, arith}
+use Rattle.std.proofs.Common.{◌≡◌, ℕ, zero, suc, ◌+◌, ◌-◌, ◌*◌, ◌≤◌, Bool, true, false, cond, ◌&&◌, ltb, leb, List, [], ◌∷◌, ◌++◌, length, replicate, Ok, Err, Result, sym, refl, ap, ◌∙◌, subst, arith}
 use Rattle.std.specs.List.{AllByRecursion as All}
 use Rattle.std.proofs.lemmas.Bool.{and_parts, leb-true}
 use Rattle.messages.specs.Messages.{Msg, between, in_range, last_view}
-use Rattle.wires.specs.Wire.{looked, taken, post_answer, posted, room_left}
-use Rattle.rules.specs.Party.{Party, none}
+use Rattle.wires.specs.Wire.{looked, taken, post_answer, posted}
+use Rattle.rules.specs.Party.{none}
 use Rattle.rules.specs.Step.{step, on_timer}
 use Rattle.agreement.specs.Ring.{Kind, Ring, Shown, setting, is_faulty, in_ring, room, step_room, tables_fit, shown, shown_party, rewired}
 use Rattle.agreement.specs.Calls.{Answer, said, told, refused, Outcome, Gives, refuse, with_wire, stepped, deliver, bring_found, lose_found, timed}

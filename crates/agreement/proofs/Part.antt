@@ -2,7 +2,7 @@
 use Rattle.std.proofs.Common.{ℕ, ◌<◌, ◌≤◌, refl, arith}
 use Rattle.messages.specs.Messages.{Msg}
 use Rattle.rules.specs.Party.{Setting, Party, Step, still, and_then}
-use Rattle.rules.specs.Step.{echo, wake}
+use Rattle.rules.specs.Step.{wake}
 use Rattle.agreement.proofs.Effects.{E, request_effect, enter_effect, suggest_effect, told_proof_effect, drop_effect, echo_effect, wait_effect, vote_effect, lock_effect, wake_effect, done_effect, raise_effect, told_abort_effect}
 use Rattle.agreement.proofs.Posts.{Posts, still-posts, enter-posts, echo-posts, wake-posts, suggest-posts, vote-posts, lock-posts, raise_posts, done-posts, request-posts}
 use Rattle.agreement.proofs.Walk.{Parts}

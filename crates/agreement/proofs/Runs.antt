@@ -1,5 +1,5 @@
 -- A fact of a shift that set-up gives and every call keeps holds of every shift.
-use Rattle.std.proofs.Common.{◌≡◌, ℕ, ◌+◌, true, ◌&&◌, ltb, leb, ◌⊎◌, List, [], ◌∷◌, ◌++◌, None, Ok, Err, Result, sym, refl, subst, inl, inr, append-nil}
+use Rattle.std.proofs.Common.{◌≡◌, ℕ, true, ◌&&◌, ltb, leb, ◌⊎◌, List, [], ◌∷◌, ◌++◌, None, Ok, Err, Result, sym, refl, subst, inl, inr, append-nil}
 use Rattle.std.proofs.lemmas.Bool.{cond_both, and_parts}
 use Rattle.messages.specs.Messages.{Msg, last_view, in_range}
 use Rattle.wires.specs.Wire.{looked, taken}

@@ -4,7 +4,7 @@ use Rattle.std.proofs.lemmas.Bool.{cond_both, eqb-true, both_ways, le-leb}
 use Rattle.std.proofs.lemmas.Bool.Decides.{nat_tests}
 use Rattle.messages.specs.Messages.{Msg}
 use Rattle.rules.specs.Party.{nothing, Party, Step}
-use Rattle.rules.specs.Step.{step, enter, first_field, empty_row}
+use Rattle.rules.specs.Step.{enter, first_field, empty_row}
 use Rattle.rules.proofs.Once.{like, how_many, how_many_append, how_many-none, used, Once, not_mine, once_enter, once_timer, once_step, once_total}
 use Rattle.agreement.specs.Ring.{Kind, Ring, setting, honest}
 use Rattle.agreement.specs.Calls.{said, Plan, named, own_of, planned, first_step, first_posts, set_up_done, set_up}

@@ -1,5 +1,5 @@
 -- A step is one, two or three parts: what each part keeps, the step keeps.
-use Rattle.std.proofs.Common.{◌≡◌, ℕ, ◌+◌, ◌<◌, ◌≤◌, max, true, not, eqb, ltb, leb, List, [], ◌++◌, Some, None, Option, refl, subst, append_assoc, arith}
+use Rattle.std.proofs.Common.{◌≡◌, ℕ, ◌<◌, ◌≤◌, max, true, not, eqb, ltb, leb, List, [], ◌++◌, Some, None, Option, refl, subst, append_assoc, arith}
 use Rattle.std.proofs.lemmas.Bool.{cond_both, eqb-true}
 use Rattle.std.proofs.lemmas.Bool.Decides.{nat_tests}
 use Rattle.messages.specs.Messages.{Msg}

@@ -1,13 +1,12 @@
 -- The calls on a ring: what each answers, what it leaves, what it posts and what it loses.
-use Rattle.std.specs.Prelude.{◌≡◌, ℕ, zero, suc, ◌+◌, ◌-◌, ◌*◌, ◌/◌, ◌%◌, ◌^◌, Bool, true, false, cond, not, ◌&&◌, ◌||◌, List, [], ◌∷◌, ◌++◌, length, Some, None, Ok, Err, Option, Result, ◌==◌, nat_le, nat_lt, slice_index_or}
-use Rattle.messages.specs.Messages.{Msg, between, last_view, in_range}
-use Rattle.wires.specs.Wire.{looked, taken}
+use Rattle.std.specs.Prelude.{◌≡◌, ℕ, zero, suc, ◌*◌, ◌/◌, ◌%◌, ◌^◌, Bool, false, cond, ◌&&◌, ◌||◌, List, [], ◌∷◌, ◌++◌, length, Ok, Err, Result, ◌==◌, nat_le, nat_lt, slice_index_or}
+use Rattle.messages.specs.Messages.{Msg, last_view, in_range}
 use Rattle.rules.specs.Counting.{count, upd}
-use Rattle.rules.specs.Party.{Party, Step, none}
+use Rattle.rules.specs.Party.{Step, none}
 use Rattle.rules.specs.Thresholds.{sizes_fit}
 use Rattle.rules.specs.Bounds.{every}
 use Rattle.rules.specs.Step.{newcomer, enter, step, on_timer}
-use Rattle.agreement.specs.Ring.{Kind, Ring, Shown, rewired, setting, in_ring, honest, room, step_room, tables_fit, shown}
+use Rattle.agreement.specs.Ring.{Kind, Ring, Shown, setting, in_ring, honest, room, step_room, shown}
 
 -- an answer: the number of posts, what show tells, or the number of a refusal
 pub data Answer : Type 0 where
@@ -32,7 +31,8 @@ abbrev pub refuse : Ring → ℕ → Outcome
 refuse s number = record { after = s; answer = refused number; posted = []; lost = [] }
 
 abbrev pub with_wire : Ring → List Msg → Ring
-with_wire s w = rewired s w s.capacity
+with_wire s w =
+    record { n = s.n; f = s.f; faulty = s.faulty; parties = s.parties; records = s.records; rows = s.rows; wire = w; capacity = s.capacity }
 
 -- party i has taken a step over the wire w
 abbrev pub stepped : Ring → ℕ → List Msg → Step → Outcome
@@ -97,7 +97,15 @@ module _ (k : Kind) where
       (refuse s 12)
 
   abbrev pub ring_timer : Ring → ℕ → Outcome
-  ring_timer s i = cond (in_ring s i) (cond (s.faulty i) (refuse s 3) (timed s i)) (refuse s 2)
+  ring_timer s i =
+      cond (in_ring s i)
+      (cond (s.faulty i) (refuse s 3)
+      (cond (none (s.parties i).rec.decision)
+      (cond (nat_lt (s.parties i).rec.view last_view)
+      (cond (nat_le (step_room s.n) (room s)) (stepped s i s.wire (on_timer (setting k s) i (s.parties i))) (refuse s 10))
+      (refuse s 13))
+      (refuse s 12)))
+      (refuse s 2)
 
   -- ## Show
   abbrev pub ring_show : Ring → ℕ → Outcome

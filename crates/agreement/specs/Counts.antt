@@ -1,10 +1,10 @@
 -- What is promised of every shift, whatever the faulty parties send.
-use Rattle.std.specs.Prelude.{◌≡◌, ℕ, zero, suc, ◌≤◌, Bool, true, false, cond, ◌&&◌, List, [], ◌∷◌, ◌++◌, take, ◌==◌}
+use Rattle.std.specs.Prelude.{◌≡◌, ℕ, suc, ◌≤◌, Bool, true, false, cond, ◌&&◌, List, [], ◌∷◌, take, ◌==◌}
 use Rattle.std.specs.List.{AllByRecursion as All}
 use Rattle.messages.specs.Messages.{Msg}
 use Rattle.rules.specs.Thresholds.{primary}
-use Rattle.agreement.specs.Ring.{Kind, Ring, State, is_faulty, is_open, is_decided, Shown, setting, honest, shown}
-use Rattle.agreement.specs.Calls.{Answer, said, Outcome, Plan, set_up}
+use Rattle.agreement.specs.Ring.{Kind, Ring, is_open, is_decided, setting, honest, shown}
+use Rattle.agreement.specs.Calls.{said, Plan, set_up}
 use Rattle.agreement.specs.Runs.{Call, Shift, shift}
 
 -- ## Messages between honest parties

@@ -1,8 +1,8 @@
 -- A ring of parties by its meaning: who is faulty, what each party keeps, and what waits on the wire.
-use Rattle.std.specs.Prelude.{ℕ, zero, suc, ◌+◌, ◌-◌, ◌*◌, ◌/◌, ◌%◌, ◌^◌, Bool, true, false, cond, not, ◌&&◌, ◌||◌, List, [], ◌∷◌, ◌++◌, length, replicate, Some, None, Option, nat_le}
+use Rattle.std.specs.Prelude.{ℕ, ◌+◌, ◌*◌, Bool, cond, not, ◌&&◌, ◌||◌, List, replicate, Some, None, Option, nat_le}
 use Rattle.messages.specs.Messages.{Msg, between}
 use Rattle.wires.specs.Wire.{room_left}
-use Rattle.rules.specs.Party.{Setting, Party, none}
+use Rattle.rules.specs.Party.{Setting, Party}
 use Rattle.rules.specs.Bounds.{party_fits, every}
 
 -- a kind of value: its width, the bytes that some value has, and those that a ring may agree on

@@ -1,9 +1,9 @@
 -- Shifts: a set-up that is answered with 0, and then any list of calls.
-use Rattle.std.specs.Prelude.{◌≡◌, ℕ, zero, suc, Bool, true, false, cond, List, [], ◌∷◌, ◌++◌}
+use Rattle.std.specs.Prelude.{ℕ, cond, List, [], ◌∷◌, ◌++◌}
 use Rattle.messages.specs.Messages.{Msg}
 use Rattle.wires.specs.Wire.{looked, taken}
 use Rattle.agreement.specs.Ring.{Kind, Ring, tables_fit}
-use Rattle.agreement.specs.Calls.{Answer, said, Outcome, Plan, refuse, bring_found, lose_found, send_message, ring_timer, ring_show, set_up}
+use Rattle.agreement.specs.Calls.{Outcome, Plan, refuse, bring_found, lose_found, send_message, ring_timer, ring_show, set_up}
 
 pub data Call : Type 0 where
   hand : ℕ → Call

@@ -1,5 +1,5 @@
 -- One turn of a loop over the rows: one sender more.
-use Rattle.std.proofs.Common.{◌≡◌, ℕ, zero, suc, ◌+◌, ◌<◌, max, Bool, true, false, cond, ◌&&◌, ◌||◌, leb, List, length, get_or, is_some, Some, None, Option, sym, refl, ap, ◌∙◌, add-one}
+use Rattle.std.proofs.Common.{◌≡◌, ℕ, suc, ◌+◌, ◌<◌, max, Bool, true, false, cond, ◌&&◌, ◌||◌, leb, List, length, get_or, is_some, Some, None, Option, sym, refl, ap, ◌∙◌, add-one}
 use Rattle.std.specs.Option.{option_map}
 use Rattle.rules.specs.Counting.{count, largest}
 use Rattle.rules.specs.Party as model

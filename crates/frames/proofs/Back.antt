@@ -1,13 +1,13 @@
 -- The laws of frames: a frame has its length, reads as its message, and is written back.
-use Rattle.std.proofs.Common.{◌≡◌, ℕ, zero, suc, ◌+◌, ◌*◌, ◌<◌, ◌≤◌, Bool, true, false, cond, ◌&&◌, eqb, List, [], ◌∷◌, ◌++◌, length, get_or, take, drop, Some, None, Option, sym, refl, ap, ◌∙◌, arith}
+use Rattle.std.proofs.Common.{◌≡◌, ℕ, ◌+◌, ◌≤◌, Bool, true, false, cond, ◌&&◌, eqb, List, [], ◌∷◌, ◌++◌, length, get_or, take, drop, Some, None, Option, sym, refl, ap, ◌∙◌, arith}
 use Rattle.std.specs.Int.Digits.{number_from_digits, AllBelowBase}
 use Rattle.std.proofs.lemmas.Bool.{cond_both, cond-true, cond-false, and_from, and_parts, eqb-true, eq-eqb, ne_eqb}
 use Rattle.std.proofs.lemmas.List.{drop-drop, drop_at, take_at, append_assoc, length-append}
 use Rattle.octets.specs.Bytes.{be}
 use Rattle.octets.proofs.Numbers.{number-be, be-part, part_rest}
-use Rattle.messages.specs.Messages.{Msg, in_range, earlier_fits, uses_previous}
-use Rattle.messages.proofs.Ranges.{Fields, in_range-fields, view_small, key_small, earlier_small, value-length}
-use Rattle.frames.specs.Frames.{word, unword, head, frame, frame_length, word_at, fields, is_frame, unframe, FrameLength, ReadsBack, WritesBack}
+use Rattle.messages.specs.Messages.{Msg, in_range, earlier_fits}
+use Rattle.messages.proofs.Ranges.{in_range-fields, view_small, key_small, earlier_small, value-length}
+use Rattle.frames.specs.Frames.{word, unword, frame, frame_length, word_at, fields, is_frame, unframe, FrameLength, ReadsBack, WritesBack}
 
 pub frame_length_stands : FrameLength
 unfolding frame

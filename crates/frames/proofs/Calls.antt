@@ -1,5 +1,5 @@
 -- What the calls on frames rest on.
-use Rattle.std.proofs.Common.{◌≡◌, ℕ, ◌+◌, ◌-◌, ◌*◌, ◌<◌, ◌≤◌, Bool, true, false, cond, ◌&&◌, eqb, ◌⊎◌, List, [], ◌∷◌, ◌++◌, length, get_or, take, drop, is_ok, Some, None, Ok, Err, Option, Result, sym, refl, ap, ◌∙◌, inl, inr, arith}
+use Rattle.std.proofs.Common.{◌≡◌, ℕ, ◌+◌, ◌-◌, ◌≤◌, Bool, true, false, cond, List, ◌++◌, length, get_or, take, drop, is_ok, Some, None, Ok, Option, sym, refl, ap, ◌∙◌, inl, inr, arith}
 use Rattle.std.proofs.lemmas.Bool.{cond-true, cond-false, and_from, eq-eqb, cases_Bool, both_ways, le-ltb}
 use Rattle.std.proofs.lemmas.List.{append_assoc, take_rest}
 use Rattle.octets.specs.Bytes.{over}
@@ -7,8 +7,6 @@ use Rattle.octets.proofs.Writes.{two_writes, part-over}
 use Rattle.messages.specs.Messages.{Msg, in_range}
 use Rattle.messages.proofs.Ranges.{in_range-fields, value-valid}
 use Rattle.frames.specs.Frames.{unword, frame, frame_length, word_at, fields, is_frame, unframe}
-use Rattle.frames.specs.declared.fault.FrameFault.{FrameFault}
-use Rattle.frames.specs.declared.fault.FrameFault.TheVariants.{Short, Range}
 use Rattle.frames.specs.Answers.{written, buffer_after}
 use Rattle.frames.proofs.Back.{framed, reads_back, frame_length_stands}
 

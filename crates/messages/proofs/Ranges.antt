@@ -1,8 +1,8 @@
 -- What a message in range says of each field.
-use Rattle.std.proofs.Common.{◌≡◌, ℕ, ◌<◌, ◌≤◌, Bool, true, false, cond, ◌&&◌, eqb, leb, List, length, Some, None, Option, sym, refl, ap, ◌∙◌, arith}
+use Rattle.std.proofs.Common.{◌≡◌, ℕ, ◌≤◌, Bool, true, false, eqb, leb, List, length, Some, arith}
 use Rattle.std.proofs.lemmas.Bool.{and_parts, eqb-true, leb-true}
 use Rattle.std.proofs.lemmas.Bool.Decides.{nat_tests}
-use Rattle.messages.specs.Messages.{Msg, in_range, between, is_party, view_fits, key_fits, earlier_fits, value_fits, uses_view, highest_view, uses_key, uses_value, uses_second, uses_previous}
+use Rattle.messages.specs.Messages.{Msg, in_range, between, is_party, view_fits, key_fits, earlier_fits, value_fits, uses_key, uses_value, uses_second, uses_previous}
 
 -- the tests of the fields, one by one
 pub record Fields (valid : List ℕ → Bool) (width : ℕ) (m : Msg) : Type 0 where

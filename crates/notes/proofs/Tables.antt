@@ -1,14 +1,12 @@
 -- The votes of a row by kind, with one changed.
-use Rattle.std.proofs.Common.{◌≡◌, ℕ, Bool, true, false, cond, eqb, List, Some, None, Option, sym, refl, ap, ◌∙◌, inl, inr, ne_eqb}
+use Rattle.std.proofs.Common.{◌≡◌, ℕ, List, Some, Option, ap, ◌∙◌, inl, inr, ne_eqb}
 use mathlib.Core.Path.{fun_ext}
 use Rattle.std.proofs.lemmas.Bool.{cases_eq}
 use Rattle.rules.specs.Counting.{upd}
 use Rattle.rules.specs.Party as model
 use Rattle.rules.specs.Party.{with_vote}
 use Rattle.rows.specs.declared.row.Row.{Row}
-use Rattle.rows.specs.declared.keys.Keyed.{Keyed}
-use Rattle.rows.specs.declared.record.Record.{Record}
-use Rattle.rows.specs.Meaning.{row_of, vote_of, keyed_of, record_of, field_of}
+use Rattle.rows.specs.Meaning.{row_of, vote_of}
 
 module _ {V : Type 0} (bytes : V → List ℕ) (row : Row V) (v : V) where
   -- the votes of a row as a table, with the echo in front

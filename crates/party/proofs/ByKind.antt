@@ -4,7 +4,7 @@ use Rattle.messages.specs.Messages.{Msg, between}
 use Rattle.rules.specs.Party.{Setting, Proposal, nothing, waiting, echoed, dropped, Party, Step, still, and_then, none}
 use Rattle.rules.specs.Thresholds.{primary}
 use Rattle.rules.specs.Tests.{heeded, is_nothing}
-use Rattle.rules.specs.Step.{propose, on_suggest, on_request, on_proof, on_propose, on_vote, wake, on_lock, on_done, on_abort, react, step}
+use Rattle.rules.specs.Step.{on_suggest, on_request, on_proof, on_propose, on_vote, wake, on_lock, on_done, on_abort, react, step}
 use Rattle.posting.proofs.Choosing.{passed, failed}
 
 module _ (g : Setting) (me : ℕ) (p : Party) (m : Msg) where

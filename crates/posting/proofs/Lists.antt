@@ -1,9 +1,9 @@
 -- Lists of posts: parts that fit, one more, and their lengths.
-use Rattle.std.proofs.Common.{◌≡◌, ℕ, zero, suc, ◌+◌, ◌-◌, ◌^◌, ◌<◌, ◌≤◌, Bool, true, false, cond, ◌&&◌, ltb, List, [], ◌∷◌, ◌++◌, length, sym, refl, ap, ◌∙◌, subst, append_assoc, add-one, arith, lt-ltb}
+use Rattle.std.proofs.Common.{◌≡◌, ℕ, zero, suc, ◌+◌, ◌-◌, ◌^◌, ◌<◌, Bool, true, false, cond, ◌&&◌, ltb, List, [], ◌∷◌, ◌++◌, length, sym, refl, ap, ◌∙◌, subst, append_assoc, add-one, arith, lt-ltb}
 use Rattle.std.specs.List.{AllByRecursion as All}
 use Rattle.std.proofs.lemmas.List.{length-append, append-nil}
 use Rattle.messages.specs.Messages.{Msg, in_range}
-use Rattle.wires.specs.Wire.{may_post, posted, room_left}
+use Rattle.wires.specs.Wire.{posted}
 use Rattle.rules.specs.Posts.{to_each}
 use Rattle.posting.specs.Posting.{Takes, Posted}
 

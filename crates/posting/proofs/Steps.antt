@@ -1,9 +1,9 @@
 -- One step and then another, and a step under another name.
-use Rattle.std.proofs.Common.{◌≡◌, ℕ, ◌+◌, ◌^◌, ◌<◌, Bool, true, false, cond, List, [], ◌++◌, length, sym, refl, ap, ◌∙◌, subst}
+use Rattle.std.proofs.Common.{◌≡◌, ℕ, ◌+◌, ◌^◌, ◌<◌, Bool, List, [], ◌++◌, length, sym, refl, ap, ◌∙◌, subst}
 use Rattle.std.proofs.lemmas.List.{append-nil}
 use Rattle.messages.specs.Messages.{Msg}
 use Rattle.rules.specs.Party.{Party, Step, still, and_then}
-use Rattle.posting.specs.Posting.{Takes, Posted, Does}
+use Rattle.posting.specs.Posting.{Takes, Does}
 use Rattle.posting.proofs.Lists.{takes_first, takes_rest, posted_both, posted-none, two_fit}
 
 module _ {valid : List ℕ → Bool} {width capacity : ℕ} {old : List Msg} where

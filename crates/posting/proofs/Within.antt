@@ -1,12 +1,12 @@
 -- What a party keeps are values, so a wire with enough room takes every post of a step.
-use Rattle.std.proofs.Common.{◌≡◌, ℕ, zero, suc, ◌+◌, ◌*◌, ◌<◌, ◌≤◌, Bool, true, false, cond, ◌&&◌, eqb, leb, List, [], ◌∷◌, map, length, get_or, replicate, Some, None, Option, sym, refl, ap, ◌∙◌, arith, eq-eqb, leb-true}
+use Rattle.std.proofs.Common.{◌≡◌, ℕ, zero, suc, ◌+◌, ◌≤◌, Bool, true, false, ◌&&◌, leb, List, [], ◌∷◌, map, length, get_or, Some, None, Option, refl, ap, ◌∙◌, arith, eq-eqb, leb-true}
 use Rattle.std.specs.Option.{option_map}
 use Rattle.std.specs.List.{AllByRecursion as All}
 use Rattle.std.proofs.ByRecursion.{All-weaker}
 use Rattle.messages.specs.Messages.{Msg, in_range, between}
 use Rattle.rules.specs.Party as model
-use Rattle.rules.specs.Bounds.{every, party_fits}
-use Rattle.rules.specs.Facts.{Seated, Fits, Proper, OwnPost, most_posts, is_value, offer_value, proposal_value, stored_value, field_values, record_values, values_fit}
+use Rattle.rules.specs.Bounds.{every}
+use Rattle.rules.specs.Facts.{OwnPost, most_posts, is_value, offer_value, proposal_value, stored_value, values_fit}
 use Rattle.rules.specs.Step.{empty_row}
 use Rattle.rows.specs.declared.keys.Keyed.{Keyed}
 use Rattle.rows.specs.declared.keys.Suggest.{Suggest}
@@ -14,7 +14,7 @@ use Rattle.rows.specs.declared.record.Proposal.{Proposal}
 use Rattle.rows.specs.declared.record.Proposal.TheVariants.{Nothing, Waiting, Echoed, Dropped}
 use Rattle.rows.specs.declared.record.Record.{Record}
 use Rattle.rows.specs.declared.row.Row.{Row}
-use Rattle.rows.specs.Meaning.{keyed_of, suggest_of, proposal_of, record_of, row_of, rows_of, party_of}
+use Rattle.rows.specs.Meaning.{keyed_of, suggest_of, proposal_of, row_of, rows_of, party_of}
 use Rattle.posting.specs.Posting.{Takes}
 
 both : {a b : Bool} → a ≡ true → b ≡ true → (a && b) ≡ true

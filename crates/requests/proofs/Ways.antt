@@ -1,5 +1,5 @@
 -- Which way the rule of a request goes.
-use Rattle.std.proofs.Common.{◌≡◌, ℕ, ◌+◌, Bool, cond, eqb, [], ◌∷◌, ◌++◌, sym, refl, ap, ◌∙◌, eq-eqb, ne_eqb}
+use Rattle.std.proofs.Common.{◌≡◌, ℕ, Bool, cond, eqb, [], ◌∷◌, ◌++◌, sym, refl, ap, ◌∙◌, eq-eqb, ne_eqb}
 use Rattle.messages.specs.Messages.{Msg}
 use Rattle.rules.specs.Party.{Record, Setting, Party, Step, still, with_row, with_request}
 use Rattle.rules.specs.Posts.{proof_msg, made_offer, made_echo, made_vote, made, suggest_to}

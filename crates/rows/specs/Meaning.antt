@@ -1,5 +1,5 @@
 -- What the code's record and rows mean: the same parts, each value by its bytes.
-use Rattle.std.specs.Prelude.{ℕ, zero, suc, Bool, cond, List, [], map, Some, None, Option, ◌==◌, slice_index_or}
+use Rattle.std.specs.Prelude.{ℕ, zero, suc, Bool, cond, List, [], map, None, Option, ◌==◌, slice_index_or}
 use Rattle.std.specs.Option.{option_map}
 use Rattle.rules.specs.Party as model
 use Rattle.rules.specs.Party.{nothing, waiting, echoed, dropped}

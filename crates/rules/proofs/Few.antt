@@ -1,13 +1,12 @@
 -- How many messages a step posts.
-use Rattle.std.proofs.Common.{◌≡◌, ℕ, zero, suc, ◌+◌, ◌*◌, ◌<◌, ◌≤◌, Bool, true, false, cond, not, ◌&&◌, ◌||◌, eqb, ltb, leb, List, [], ◌∷◌, ◌++◌, length, Some, None, Option, refl, arith}
+use Rattle.std.proofs.Common.{ℕ, ◌+◌, ◌*◌, ◌≤◌, not, ◌&&◌, ◌||◌, eqb, ltb, leb, List, length, Some, None, Option, arith}
 use Rattle.std.proofs.lemmas.Bool.{cond_both}
 use Rattle.values.specs.Same.{equal}
 use Rattle.messages.specs.Messages.{Msg}
-use Rattle.rules.specs.Party.{Setting, Suggest, Proposal, nothing, waiting, echoed, dropped, Party, Step, with_rec, with_proposal, still, and_then, none}
+use Rattle.rules.specs.Party.{Setting, Suggest, Proposal, nothing, waiting, echoed, dropped, Party, Step, still, and_then, none}
 use Rattle.rules.specs.Thresholds.{primary, vouched, reached}
-use Rattle.rules.specs.Posts.{to_all, to_joined, suggest_to, made, suggest_msg, view_msg}
 use Rattle.rules.specs.Tests.{heeded, lock_opened, voted, done_vouched, done_agreed, best}
-use Rattle.rules.specs.Step.{step, react, on_timer, enter, entered, on_request, on_suggest, told_suggest, propose, propose_due, wake, wake_proposal, on_propose, lock_fits, may_wait, on_proof, on_vote, told_vote, announce_due, on_lock, on_done, told_done, join_done, decide, aborts, say_abort, join_abort, leave, on_abort}
+use Rattle.rules.specs.Step.{step, react, on_timer, enter, on_request, on_suggest, told_suggest, propose, propose_due, wake, wake_proposal, on_propose, lock_fits, may_wait, on_proof, on_vote, told_vote, announce_due, on_lock, on_done, told_done, join_done, decide, aborts, join_abort, leave, on_abort}
 use Rattle.rules.specs.Facts.{PostsFew}
 use Rattle.rules.proofs.Sent.{if_few, append_few, to_each_short, made-few, suggest-few}
 

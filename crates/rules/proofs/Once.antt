@@ -1,18 +1,18 @@
 -- Nothing is said twice, as far as one party's steps show: whether a message of a kind and view may have gone to a party
 -- is written in what the sender keeps, no step forgets it, and no step posts what may have gone.
-use Rattle.std.proofs.Common.{◌≡◌, ℕ, zero, suc, ◌+◌, ◌<◌, ◌≤◌, max, Bool, true, false, cond, not, ◌&&◌, ◌||◌, eqb, ltb, leb, ◌⊎◌, List, [], ◌∷◌, ◌++◌, Some, None, Option, sym, refl, ap, ◌∙◌, subst, subst₂, inl, inr, arith}
+use Rattle.std.proofs.Common.{◌≡◌, ℕ, zero, suc, ◌+◌, ◌<◌, ◌≤◌, max, Bool, true, false, cond, not, ◌&&◌, ◌||◌, eqb, ltb, leb, List, [], ◌∷◌, ◌++◌, Some, None, Option, sym, refl, ap, ◌∙◌, subst, subst₂, inl, inr, arith}
 use Rattle.std.specs.List.{AllByRecursion as All}
 use Rattle.std.proofs.ByRecursion.{All-append}
-use Rattle.std.proofs.lemmas.Bool.{cond_both, cases_order, and_parts, and_from, eqb-true, eq-eqb, leb-true, le-leb, ltb-true, lt-ltb, both_ways}
+use Rattle.std.proofs.lemmas.Bool.{cond_both, cases_order, and_parts, and_from, eqb-true, eq-eqb, leb-true, le-leb, ltb-true, both_ways}
 use Rattle.std.proofs.lemmas.Bool.Decides.{nat_tests}
 use Rattle.values.specs.Same.{equal}
 use Rattle.messages.specs.Messages.{Msg, between}
 use Rattle.rules.specs.Counting.{upd}
-use Rattle.rules.specs.Party.{Setting, Keyed, Suggest, Proof, Proposal, nothing, waiting, echoed, dropped, Record, Row, Party, Step, with_rec, with_row, with_done, with_decision, with_offer, with_proposal, with_request, with_abort, with_told, with_suggest, with_proof, with_vote, cleared, still, and_then, none}
+use Rattle.rules.specs.Party.{Setting, Keyed, Suggest, Proposal, nothing, waiting, echoed, dropped, Record, Row, Party, Step, with_rec, with_row, with_done, with_decision, with_offer, with_proposal, with_request, with_abort, cleared, still, and_then, none}
 use Rattle.rules.specs.Thresholds.{primary, vouched, reached}
 use Rattle.rules.specs.Posts.{to_each, view_msg, suggest_msg, proof_msg, propose_msg, vote_msg, to_all, to_joined, suggest_to, made, made_offer, made_echo, made_vote}
 use Rattle.rules.specs.Tests.{lock_opened, voted, done_vouched, done_agreed, best, heeded, is_nothing}
-use Rattle.rules.specs.Step.{step, react, on_timer, enter, entered, on_request, on_suggest, told_suggest, propose, propose_due, echo, wake, wake_proposal, on_propose, lock_fits, may_wait, on_proof, told_proof, moved, announce, on_vote, told_vote, announce_due, on_lock, on_done, told_done, join_done, say_done, decide, aborts, say_abort, join_abort, leave, on_abort}
+use Rattle.rules.specs.Step.{step, react, on_timer, enter, entered, on_request, on_suggest, told_suggest, propose, propose_due, echo, wake, wake_proposal, on_propose, lock_fits, may_wait, on_proof, told_proof, moved, on_vote, told_vote, announce_due, on_lock, on_done, told_done, join_done, say_done, decide, aborts, say_abort, join_abort, leave, on_abort}
 use Rattle.rules.proofs.Sent.{all_one, all_each, all_made}
 
 -- a message from one party to another, of a kind and a view

@@ -1,21 +1,21 @@
 -- What a party posts is in range while what it keeps is, and every step keeps it so.
-use Rattle.std.proofs.Common.{◌≡◌, ℕ, zero, suc, ◌+◌, ◌*◌, ◌%◌, ◌<◌, ◌≤◌, max, Bool, true, false, cond, not, ◌&&◌, ◌||◌, eqb, ltb, leb, ◌⊎◌, List, [], ◌∷◌, ◌++◌, length, replicate, Some, None, Option, sym, refl, ◌∙◌, subst, inl, inr, arith}
+use Rattle.std.proofs.Common.{◌≡◌, ℕ, zero, suc, ◌<◌, ◌≤◌, Bool, true, false, cond, not, ◌&&◌, ◌||◌, eqb, ltb, leb, List, [], ◌∷◌, length, replicate, Some, None, Option, sym, refl, subst, inl, inr, arith}
 use Rattle.std.specs.List.{AllByRecursion as All}
 use Rattle.std.proofs.ByRecursion.{All-append}
 use Rattle.std.proofs.lemmas.Nat.{mod_below}
 use Rattle.std.proofs.lemmas.List.{length-replicate}
-use Rattle.std.proofs.lemmas.Bool.{cond_both, cases_lt, cases_order, and_parts, and_from, eqb-true, leb-true, le-leb, ltb-true, lt-ltb, eq-eqb}
+use Rattle.std.proofs.lemmas.Bool.{cond_both, cases_lt, cases_order, and_parts, and_from, eqb-true, leb-true, le-leb, ltb-true, lt-ltb}
 use Rattle.std.proofs.lemmas.Bool.Decides.{nat_tests}
 use Rattle.values.specs.Same.{equal}
-use Rattle.messages.specs.Messages.{Msg, between, uses_view, uses_key, uses_second, uses_previous, uses_value, is_zero, is_party, last_view, most_parties, highest_view, previous_fits, value_fits, in_range}
+use Rattle.messages.specs.Messages.{Msg, between, uses_view, uses_key, uses_second, uses_previous, uses_value, is_zero, is_party, last_view, highest_view, previous_fits, value_fits, in_range}
 use Rattle.rules.specs.Counting.{upd}
-use Rattle.rules.specs.Party.{Setting, Keyed, Suggest, Proof, Proposal, nothing, waiting, echoed, dropped, Record, Row, Party, Step, with_rec, with_row, with_done, with_decision, with_offer, with_proposal, with_request, with_abort, with_told, with_suggest, with_proof, with_vote, cleared, still, and_then, none}
+use Rattle.rules.specs.Party.{Setting, Keyed, Suggest, Proof, Proposal, nothing, waiting, echoed, dropped, Record, Row, Party, Step, with_rec, with_row, with_done, with_decision, with_offer, with_proposal, with_request, with_abort, with_suggest, with_proof, cleared, still, and_then, none}
 use Rattle.rules.specs.Thresholds.{primary, vouched, reached}
-use Rattle.rules.specs.Posts.{blank, view_msg, suggest_msg, proof_msg, propose_msg, vote_msg, to_all, to_joined, suggest_to, made}
+use Rattle.rules.specs.Posts.{view_msg, suggest_msg, proof_msg, propose_msg, vote_msg, to_joined}
 use Rattle.rules.specs.Tests.{below, lock_opened, voted, done_vouched, done_agreed, best, higher, accepted, heeded}
-use Rattle.rules.specs.Step.{step, react, on_timer, enter, entered, on_request, on_suggest, told_suggest, propose, propose_due, echo, wake, wake_proposal, on_propose, lock_fits, may_wait, on_proof, told_proof, moved, announce, on_vote, told_vote, announce_due, on_lock, on_done, told_done, join_done, say_done, decide, aborts, say_abort, join_abort, leave, on_abort}
-use Rattle.rules.specs.Bounds.{every, row_fits, fields_fit, previous_below, record_fits, suggest_fits, proof_fits, party_fits, stored_suggest_fits, stored_proof_fits, offer_fits}
-use Rattle.rules.specs.Facts.{PostsInRange, BoundsKept, is_value, offer_value, field_values, stored_value, proposal_value, record_values, values_fit, Seated, Fits, Proper, OwnPost}
+use Rattle.rules.specs.Step.{step, react, on_timer, enter, entered, on_request, on_suggest, told_suggest, propose, propose_due, echo, wake, wake_proposal, on_propose, lock_fits, may_wait, on_proof, told_proof, moved, on_vote, told_vote, announce_due, on_lock, on_done, told_done, say_done, aborts, say_abort, join_abort, leave, on_abort}
+use Rattle.rules.specs.Bounds.{every, row_fits, fields_fit, previous_below, record_fits, suggest_fits, proof_fits, stored_suggest_fits, offer_fits}
+use Rattle.rules.specs.Facts.{PostsInRange, BoundsKept, is_value, offer_value, field_values, stored_value, proposal_value, record_values, Seated, Fits, OwnPost}
 use Rattle.rules.proofs.Largest.{vouched-below, reached-below}
 use Rattle.rules.proofs.Sent.{all_one, all_each, all_made}
 

@@ -1,5 +1,5 @@
 -- Laws of the lists of posts: how long they are, and what holds of every message in them.
-use Rattle.std.proofs.Common.{◌≡◌, ℕ, zero, suc, ◌+◌, ◌*◌, ◌<◌, ◌≤◌, Bool, true, false, cond, eqb, List, [], ◌∷◌, ◌++◌, length, Some, None, Option, sym, refl, ◌∙◌, arith}
+use Rattle.std.proofs.Common.{◌≡◌, ℕ, zero, suc, ◌+◌, ◌≤◌, Bool, true, false, cond, eqb, List, [], ◌∷◌, ◌++◌, length, Some, None, Option, refl, ◌∙◌, arith}
 use Rattle.std.specs.List.{ContainsAt as Has, AllByRecursion as All}
 use Rattle.std.proofs.ByRecursion.{All-append, all-has}
 use Rattle.std.proofs.lemmas.List.{length-append}
@@ -7,9 +7,9 @@ use Rattle.std.proofs.lemmas.Bool.{eqb-true}
 use Rattle.std.proofs.lemmas.Bool.Decides.{nat_tests}
 use Rattle.messages.specs.Messages.{Msg}
 use Rattle.rules.specs.Counting.{count}
-use Rattle.rules.specs.Party.{Setting, Keyed, Suggest, Proof, Proposal, nothing, waiting, echoed, dropped, Record, Row, Party}
+use Rattle.rules.specs.Party.{Setting, Keyed, Proposal, nothing, waiting, echoed, dropped, Record}
 use Rattle.rules.specs.Thresholds.{primary}
-use Rattle.rules.specs.Posts.{to_each, to_all, to_joined, made, made_offer, made_echo, made_vote, suggest_to, proof_msg, propose_msg, vote_msg, suggest_msg}
+use Rattle.rules.specs.Posts.{to_each, made, made_offer, made_echo, made_vote, suggest_to, proof_msg, propose_msg, vote_msg, suggest_msg}
 use Rattle.rules.proofs.Counts.{count_le}
 
 one_at_most : {X : Type 0} (b : Bool) (x : X) → length (cond b (x ∷ []) []) ≡ cond b 1 0

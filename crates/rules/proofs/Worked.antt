@@ -1,13 +1,12 @@
 -- The worked figures, by computing them.
-use Rattle.std.proofs.Common.{◌≡◌, ℕ, zero, suc, ◌≤◌, Bool, true, false, cond, eqb, leb, List, [], ◌∷◌, sym, refl, ap, arith}
+use Rattle.std.proofs.Common.{◌≡◌, ℕ, Bool, true, false, List, [], ◌∷◌, refl, ap, arith}
 use mathlib.Core.Path.{fun_ext}
-use Rattle.std.proofs.lemmas.Bool.{cond_both}
 use Rattle.std.proofs.lemmas.Bool.Decides.{nat_tests}
 use Rattle.values.specs.Same.{equal}
-use Rattle.rules.specs.Party.{Setting, Keyed, Party, Step}
-use Rattle.rules.specs.Thresholds.{reached, vouched}
+use Rattle.rules.specs.Party.{Setting, Keyed, Party}
+use Rattle.rules.specs.Thresholds.{reached}
 use Rattle.rules.specs.Step.{leave, enter, aborts}
-use Rattle.rules.specs.Figures.{Figures, Leaving, Opening, Bearing, four, some_aborts, HoldsAborts}
+use Rattle.rules.specs.Figures.{Figures, Leaving, Opening, Bearing, four}
 
 same_self : (x : List ℕ) → equal x x ≡ true
 same_self [] = refl

@@ -1,5 +1,5 @@
 -- The bounds of the numbers that a party keeps. Every step keeps them, and within them every post is in range.
-use Rattle.std.specs.Prelude.{ℕ, zero, suc, Bool, true, false, ◌&&◌, Some, None, Option, nat_le}
+use Rattle.std.specs.Prelude.{ℕ, zero, suc, Bool, true, ◌&&◌, Some, None, Option, nat_le}
 use Rattle.messages.specs.Messages.{between, last_view, highest_view, previous_fits}
 use Rattle.rules.specs.Party.{Keyed, Suggest, Proof, Record, Row, Party}
 use Rattle.rules.specs.Tests.{below}

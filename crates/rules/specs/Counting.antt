@@ -1,5 +1,5 @@
 -- Sets of parties and tables by party. Parties are numbered from 1.
-use Rattle.std.specs.Prelude.{ℕ, zero, suc, max, Bool, true, false, cond, ◌==◌}
+use Rattle.std.specs.Prelude.{ℕ, zero, suc, max, Bool, cond, ◌==◌}
 
 -- how many of the parties 1 to n pass the test
 abbrev pub count : (ℕ → Bool) → ℕ → ℕ

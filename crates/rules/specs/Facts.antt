@@ -2,7 +2,7 @@
 use Rattle.std.specs.Prelude.{◌≡◌, ℕ, ◌+◌, ◌*◌, ◌<◌, ◌≤◌, Bool, true, ◌&&◌, List, length, replicate, Some, None, Option}
 use Rattle.std.specs.List.{AllByRecursion as All}
 use Rattle.messages.specs.Messages.{Msg, last_view, most_parties, value_fits, in_range}
-use Rattle.rules.specs.Party.{Setting, Keyed, Suggest, Proposal, nothing, waiting, echoed, dropped, Record, Row, Party}
+use Rattle.rules.specs.Party.{Setting, Keyed, Suggest, Proposal, nothing, waiting, echoed, dropped, Record, Party}
 use Rattle.rules.specs.Step.{step, on_timer, enter}
 use Rattle.rules.specs.Bounds.{every, party_fits}
 

@@ -1,5 +1,5 @@
 -- Worked figures of the rules, each over the definitions that every step uses.
-use Rattle.std.specs.Prelude.{◌≡◌, ℕ, Bool, true, false, cond, List, Some, None, Option, ◌==◌}
+use Rattle.std.specs.Prelude.{◌≡◌, ℕ, Bool, true, false, cond, List, Some, ◌==◌}
 use Rattle.values.specs.Same.{equal}
 use Rattle.rules.specs.Party.{Setting, Keyed, Suggest, Proof, Party}
 use Rattle.rules.specs.Thresholds.{sizes_fit, vouched, reached}

@@ -1,9 +1,9 @@
 -- The rules of one step: a party takes in one message, or its timer, and leaves a record, rows and posts in order.
-use Rattle.std.specs.Prelude.{ℕ, zero, suc, ◌+◌, max, Bool, true, false, cond, not, ◌&&◌, ◌||◌, List, [], ◌∷◌, ◌++◌, Some, None, Option, ◌==◌, nat_le, nat_lt}
+use Rattle.std.specs.Prelude.{ℕ, suc, max, Bool, cond, not, ◌&&◌, ◌||◌, List, [], ◌∷◌, ◌++◌, Some, None, Option, ◌==◌, nat_le, nat_lt}
 use Rattle.values.specs.Same.{equal}
 use Rattle.messages.specs.Messages.{Msg, between}
 use Rattle.rules.specs.Counting.{upd}
-use Rattle.rules.specs.Party.{Setting, Keyed, Suggest, Proof, Proposal, nothing, waiting, echoed, dropped, Record, Row, Party, Step, with_field, with_decision, with_done, with_offer, with_proposal, with_request, with_abort, with_told, with_suggest, with_proof, with_vote, cleared, with_rec, with_row, still, and_then, none}
+use Rattle.rules.specs.Party.{Setting, Keyed, Suggest, Proposal, nothing, waiting, echoed, dropped, Record, Row, Party, Step, with_field, with_decision, with_done, with_offer, with_proposal, with_request, with_abort, with_told, with_suggest, with_proof, with_vote, cleared, with_rec, with_row, still, and_then, none}
 use Rattle.rules.specs.Thresholds.{primary, quorum, vouched, reached}
 use Rattle.rules.specs.Posts.{view_msg, suggest_msg, proof_msg, propose_msg, vote_msg, to_all, to_joined, made, suggest_to}
 use Rattle.rules.specs.Tests.{lock_opened, accepted, voted, done_vouched, done_agreed, best, heeded}

@@ -1,5 +1,5 @@
 -- What makes a quorum, what makes a voucher, and who leads a view. Every rule asks here.
-use Rattle.std.specs.Prelude.{ℕ, suc, ◌+◌, ◌-◌, ◌*◌, ◌%◌, Bool, ◌&&◌, leb, nat_le, nat_lt}
+use Rattle.std.specs.Prelude.{ℕ, ◌+◌, ◌-◌, ◌*◌, ◌%◌, Bool, ◌&&◌, leb, nat_le, nat_lt}
 use Rattle.messages.specs.Messages.{between, most_parties}
 use Rattle.rules.specs.Counting.{count, largest}
 use Rattle.rules.specs.Party.{Setting}

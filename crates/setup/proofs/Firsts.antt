@@ -1,11 +1,11 @@
 -- The first steps of the parties from 1 to i.
-use Rattle.std.proofs.Common.{◌≡◌, ℕ, zero, suc, ◌+◌, ◌-◌, ◌*◌, ◌<◌, ◌≤◌, Bool, true, false, cond, not, ◌&&◌, ◌||◌, eqb, leb, List, [], ◌∷◌, ◌++◌, map, length, get_or, sym, refl, ap, ◌∙◌, subst, inl, inr, mul-le-mul_right, suc-mul, add-one, arith}
+use Rattle.std.proofs.Common.{◌≡◌, ℕ, zero, suc, ◌+◌, ◌-◌, ◌*◌, ◌<◌, ◌≤◌, Bool, true, false, cond, not, ◌&&◌, leb, List, [], ◌++◌, map, length, get_or, sym, refl, ap, ◌∙◌, inl, inr, mul-le-mul_right, suc-mul, add-one, arith}
 use mathlib.Core.Path.{fun_ext}
 use Rattle.std.proofs.lemmas.List.{get_or-map, append-nil, append_assoc, length-append}
 use Rattle.std.proofs.lemmas.Bool.{cases_eq, cases_lt, eq-eqb, ne_eqb, le-leb, lt-leb}
 use Rattle.messages.specs.Messages.{Msg, between}
 use Rattle.rules.specs.Counting.{upd}
-use Rattle.rules.specs.Party.{Party, Step}
+use Rattle.rules.specs.Party.{Party}
 use Rattle.views.proofs.Newcomers.{first_posts as first-length}
 use Rattle.agreement.specs.Ring.{Kind, Ring, setting}
 use Rattle.agreement.specs.Calls.{Plan, named, own_of, planned, first_step, first_posts, stepped, set_up_done}

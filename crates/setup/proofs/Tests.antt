@@ -1,11 +1,11 @@
 -- Set-up against the rules, test by test.
-use Rattle.std.proofs.Common.{◌≡◌, ℕ, suc, ◌+◌, ◌-◌, ◌*◌, ◌^◌, ◌<◌, ◌≤◌, Bool, true, false, cond, ◌&&◌, ◌||◌, eqb, ltb, leb, List, length, Some, None, sym, refl, ap, ◌∙◌, arith}
+use Rattle.std.proofs.Common.{◌≡◌, ℕ, ◌*◌, ◌^◌, ◌<◌, ◌≤◌, Bool, true, false, cond, ◌&&◌, eqb, ltb, leb, length, Some, None, sym, refl, ap, ◌∙◌, arith}
 use Rattle.std.proofs.lemmas.Bool.{and_left, and_right, and_parts, le-leb, lt-leb, leb-true, ltb-true}
 use Rattle.messages.specs.Messages.{between}
 use Rattle.rules.specs.Counting.{count}
 use Rattle.rules.specs.Thresholds.{sizes_fit}
 use Rattle.agreement.specs.Ring.{Kind, Ring, room}
-use Rattle.agreement.specs.Calls.{Answer, said, refused, Outcome, Plan, refuse, named, set_up_done, own_allowed, places_enough, set_up, Gives}
+use Rattle.agreement.specs.Calls.{said, refused, Outcome, Plan, refuse, named, set_up_done, own_allowed, places_enough, set_up, Gives}
 use Rattle.agreement.proofs.Obeyed.{answered}
 use Rattle.setup.specs.Order.{by_order}
 

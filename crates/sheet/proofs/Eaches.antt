@@ -1,10 +1,10 @@
 -- Lines read one after another.
-use Rattle.std.proofs.Common.{◌≡◌, ℕ, zero, suc, ◌+◌, ◌-◌, ◌<◌, ◌≤◌, ◌⊎◌, List, [], ◌∷◌, ◌++◌, map, length, take, drop, set, replicate, Some, None, Ok, Err, Option, Result, sym, refl, ap, ◌∙◌, subst, inl, inr, ⊎_elim, add-one, arith}
+use Rattle.std.proofs.Common.{◌≡◌, ℕ, zero, suc, ◌+◌, ◌-◌, ◌<◌, ◌≤◌, List, [], ◌∷◌, ◌++◌, map, length, take, drop, set, replicate, Some, None, Ok, Err, Option, Result, sym, refl, ap, ◌∙◌, ⊎_elim, add-one, arith}
 use Rattle.std.proofs.lemmas.Bool.{cases_lt}
 use Rattle.std.proofs.lemmas.List.{take_more_set, map-set, length-map, drop-set-lt, drop_more, length_push, take-append-drop}
 use Rattle.sheet_lines.specs.Lines.{lines, line_after}
 use Rattle.sheet_lines.specs.Readings.{own_line, call_line}
-use Rattle.sheet.specs.Sheets.{one_more, each, line_gives, own_values, call_list, sized, next}
+use Rattle.sheet.specs.Sheets.{one_more, each, line_gives, own_values, sized, next}
 use Rattle.sheet_lines.specs.declared.call.Call.{Call}
 
 more_gives : {A : Type 0} (r : Result (List A) ℕ) (o : Option A) (k : ℕ) (xs : List A) (x : A) → r ≡ Ok xs → line_gives k o ≡ Ok x → one_more r k o ≡ Ok (xs ++ x ∷ [])

@@ -5,7 +5,7 @@ use Rattle.sheet_fields.specs.Numbers.{between}
 use Rattle.sheet_lines.specs.declared.kind.Kind.{Kind}
 use Rattle.sheet_lines.specs.Lines.{lines, line_after}
 use Rattle.sheet_lines.specs.Readings.{kind_line, parties_line, number_line}
-use Rattle.sheet.specs.Sheets.{FaultPart, fault_part, line_gives, next, fault_lines, own_list, kind_reads, kind_blank, set_with, setting_part}
+use Rattle.sheet.specs.Sheets.{FaultPart, line_gives, fault_lines, own_list, kind_reads, kind_blank, set_with, setting_part}
 
 -- the line at the cursor is the first, or the second
 pub kind_at : (s : List ℕ) (p : ℕ) (x : Result Kind ℕ) → p ≡ 0 → x ≡ line_gives (p + 1) (kind_line (line_after (lines s) p)) → line_gives 1 (kind_line (line_after (lines s) 0)) ≡ x

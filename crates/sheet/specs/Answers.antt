@@ -1,5 +1,5 @@
 -- What it says of a sheet that its calls are not handed out.
-use Rattle.std.specs.Prelude.{◌≡◌, ℕ, Ok, Err, Result}
+use Rattle.std.specs.Prelude.{◌≡◌, ℕ, Err, Result}
 use Rattle.sheet_lines.specs.Faults.{fault_line, fault_number}
 use Rattle.sheet.specs.declared.calls.CallsFault.{CallsFault}
 use Rattle.sheet.specs.declared.calls.CallsFault.TheVariants.{Sheet, Memory}

@@ -1,5 +1,5 @@
 -- Why calls were not handed out.
-use Rattle.std.specs.Prelude.{◌≡◌, ℕ, List, Ok, Err, Result}
+use Rattle.std.specs.Prelude.{◌≡◌, ℕ, List, Err, Result}
 use Rattle.sheet_lines.specs.declared.call.Call.{Call}
 use Rattle.sheet_lines.specs.Faults.{fault_line}
 use Rattle.sheet.specs.declared.calls.CallsFault.{CallsFault}

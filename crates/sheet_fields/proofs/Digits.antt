@@ -1,12 +1,11 @@
 -- Facts about numbers in base ten.
-use Rattle.std.proofs.Common.{◌≡◌, ℕ, zero, suc, ◌+◌, ◌-◌, ◌*◌, ◌^◌, ◌<◌, ◌≤◌, Bool, true, false, cond, ◌&&◌, eqb, ltb, leb, List, [], ◌∷◌, ◌++◌, map, length, get_or, take, drop, Some, None, sym, refl, ap, ◌∙◌, add-one, arith}
+use Rattle.std.proofs.Common.{◌≡◌, ℕ, zero, suc, ◌+◌, ◌-◌, ◌^◌, ◌<◌, ◌≤◌, true, false, List, [], ◌∷◌, map, length, get_or, take, drop, Some, None, sym, refl, ap, add-one, arith}
 use Rattle.std.specs.Str.Parse.{digits_value}
 use Rattle.std.specs.Char.{digit_value as digitValue}
 use Rattle.std.specs.Int.Digits.{number_from_digits_after}
-use Rattle.std.specs.Int.Digits as words
 use Rattle.std.proofs.lemmas.List.{take-append-drop, map-append}
 use Rattle.std.proofs.lemmas.Int.Digits.{digits_value_is, number_after_append, number_after_ge}
-use Rattle.std.proofs.lemmas.Bool.{le-ltb, and_right, and_left, and_from, and_parts, cond-false}
+use Rattle.std.proofs.lemmas.Bool.{le-ltb, and_right, and_from, and_parts, cond-false}
 use Rattle.std.proofs.lemmas.Bool.Decides.{nat_tests}
 use Rattle.sheet_fields.specs.Numbers.{digit, digits, numeral, number}
 

@@ -1,8 +1,8 @@
 -- Facts about sets of parties.
-use Rattle.std.proofs.Common.{◌≡◌, ℕ, zero, suc, ◌+◌, ◌-◌, ◌*◌, ◌/◌, ◌%◌, ◌^◌, ◌<◌, ◌≤◌, Bool, true, false, cond, ◌&&◌, eqb, leb, List, [], ◌∷◌, Some, None, Option, sym, refl, ap, ◌∙◌, pow-suc, arith, pow_mono}
+use Rattle.std.proofs.Common.{◌≡◌, ℕ, zero, suc, ◌+◌, ◌-◌, ◌/◌, ◌%◌, ◌^◌, ◌<◌, ◌≤◌, true, false, eqb, List, [], Some, None, Option, sym, refl, ap, ◌∙◌, pow-suc, arith, pow_mono}
 use lib.Bits.{bit_and}
 use Rattle.std.proofs.lemmas.Bool.Decides.{nat_tests}
-use Rattle.std.proofs.lemmas.Nat.{one_shl, and_mask}
+use Rattle.std.proofs.lemmas.Nat.{and_mask}
 use Rattle.sheet_fields.specs.Cuts.{has, before, after, pieces}
 use Rattle.sheet_fields.specs.Numbers.{number, between}
 use Rattle.sheet_fields.specs.Parties.{member, rising}

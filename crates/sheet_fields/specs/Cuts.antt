@@ -1,5 +1,5 @@
 -- Texts cut at a byte: what stands before the first, what follows it, and all pieces between.
-use Rattle.std.specs.Prelude.{ℕ, Bool, true, false, cond, ◌||◌, List, [], ◌∷◌, Some, None, Ok, Err, Option, Result, ◌==◌}
+use Rattle.std.specs.Prelude.{ℕ, Bool, false, cond, ◌||◌, List, [], ◌∷◌, Some, None, Ok, Err, Option, Result, ◌==◌}
 
 -- whether the byte stands in the text
 abbrev pub has : ℕ → List ℕ → Bool

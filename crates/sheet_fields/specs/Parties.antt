@@ -1,5 +1,5 @@
 -- The set of faulty parties as a word of 64 bits: bit j - 1 is party j.
-use Rattle.std.specs.Prelude.{ℕ, ◌+◌, ◌-◌, ◌/◌, ◌%◌, ◌^◌, Bool, true, false, cond, ◌&&◌, List, [], ◌∷◌, Some, None, codes, Option, ◌==◌, nat_le}
+use Rattle.std.specs.Prelude.{ℕ, ◌+◌, ◌-◌, ◌/◌, ◌%◌, ◌^◌, Bool, cond, ◌&&◌, List, [], ◌∷◌, Some, None, codes, Option, ◌==◌, nat_le}
 use Rattle.values.specs.Same.{equal}
 use Rattle.sheet_fields.specs.Cuts.{pieces}
 use Rattle.sheet_fields.specs.Numbers.{number, between}

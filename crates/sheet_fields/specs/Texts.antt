@@ -1,5 +1,5 @@
 -- Values as texts of a run sheet: the bytes of the value that a text writes, if it writes one.
-use Rattle.std.specs.Prelude.{ℕ, ◌-◌, ◌^◌, Bool, true, false, cond, ◌&&◌, List, [], ◌∷◌, ◌++◌, Some, None, codes, Option}
+use Rattle.std.specs.Prelude.{ℕ, cond, ◌&&◌, List, ◌∷◌, ◌++◌, Some, None, codes, Option}
 use Rattle.values.specs.Same.{equal}
 use Rattle.octets.specs.Bytes.{be}
 use Rattle.sheet_fields.specs.Cuts.{has, before, after, then}

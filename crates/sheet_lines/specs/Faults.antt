@@ -1,6 +1,5 @@
 -- What a fault answers: its number, and the number of its line.
 use Rattle.std.specs.Prelude.{ℕ, ◌+◌, Ok, Err, Result}
-use Rattle.sheet_lines.specs.declared.fault.LineFault.{LineFault}
 use Rattle.sheet_lines.specs.declared.fault.SheetFault.{SheetFault}
 use Rattle.sheet_lines.specs.declared.fault.SheetFault.TheVariants.{Missing, TooLong, Line}
 

@@ -1,5 +1,5 @@
 -- The lines of a sheet. A line that cannot be read, whatever it says, stands as the empty line, which no rule reads.
-use Rattle.std.specs.Prelude.{ℕ, ◌+◌, Bool, true, false, cond, ◌&&◌, List, [], ◌∷◌, length, nat_le, slice_index_or}
+use Rattle.std.specs.Prelude.{ℕ, ◌+◌, cond, ◌&&◌, List, [], ◌∷◌, length, nat_le, slice_index_or}
 use Rattle.sheet_fields.specs.Cuts.{pieces}
 
 -- a line that begins after `at` bytes: at most 120 bytes, and its newline among the first 60,000 of the sheet

@@ -1,5 +1,5 @@
 -- What one line of a sheet says, if it can be read.
-use Rattle.std.specs.Prelude.{ℕ, Bool, true, false, cond, ◌&&◌, List, [], ◌∷◌, Some, None, codes, Option}
+use Rattle.std.specs.Prelude.{ℕ, Bool, cond, ◌&&◌, List, Some, None, codes, Option}
 use Rattle.values.specs.Same.{equal}
 use Rattle.sheet_fields.specs.Cuts.{has, before, after, then}
 use Rattle.sheet_fields.specs.Numbers.{number, between}

@@ -1,5 +1,5 @@
 -- What a token stands for: its bytes, and the number that they write.
-use Rattle.std.specs.Prelude.{ℕ, List, [], ◌∷◌, Some, None, Ok, Err, Option, Result}
+use Rattle.std.specs.Prelude.{ℕ, List, Some, None, Ok, Err, Option, Result}
 use Rattle.sheet_fields.specs.Numbers.{number}
 use Rattle.sheet_lines.specs.declared.token.Token.{Token}
 use Rattle.sheet_lines.specs.declared.token.Token.TheVariants.{Name, Number, Value}

@@ -1,8 +1,7 @@
 -- Calls one after the other.
-use Rattle.std.proofs.Common.{◌≡◌, ℕ, zero, suc, ◌+◌, ◌<◌, ◌≤◌, Bool, true, false, cond, not, List, [], ◌∷◌, ◌++◌, map, length, get_or, take, is_ok, Ok, Err, Result, sym, refl, ap, ◌∙◌, subst, add-one, arith}
-use Rattle.std.proofs.lemmas.List.{take_all}
+use Rattle.std.proofs.Common.{◌≡◌, ℕ, zero, suc, ◌+◌, ◌<◌, Bool, true, false, cond, not, List, [], ◌∷◌, ◌++◌, map, length, get_or, take, is_ok, Ok, Err, Result, sym, refl, ap, ◌∙◌, add-one, arith}
 use Rattle.agreement.specs.Ring.{Kind, Ring, tables_fit}
-use Rattle.agreement.specs.Calls.{Answer, Plan, said, set_up, Gives}
+use Rattle.agreement.specs.Calls.{Answer, Plan, set_up, Gives}
 use Rattle.agreement.specs.Runs.{Call, Shift, call, follow, run, begun, shift}
 use Rattle.agreement.proofs.Obeyed.{unfit}
 use Rattle.tables.specs.declared.refusal.Refusal.{Refusal}

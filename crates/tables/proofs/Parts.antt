@@ -1,5 +1,5 @@
 -- One party's part of the lent tables: read, and written.
-use Rattle.std.proofs.Common.{◌≡◌, ℕ, zero, suc, ◌+◌, ◌-◌, ◌*◌, ◌<◌, ◌≤◌, Bool, true, false, cond, ◌||◌, eqb, List, [], ◌∷◌, ◌++◌, map, length, get_or, take, drop, set, sym, refl, ap, ◌∙◌, inl, inr, mul-le-mul_right, suc-mul, arith}
+use Rattle.std.proofs.Common.{◌≡◌, ℕ, zero, suc, ◌+◌, ◌-◌, ◌*◌, ◌<◌, ◌≤◌, Bool, true, false, cond, ◌||◌, List, map, length, get_or, take, drop, set, sym, ap, ◌∙◌, inl, inr, mul-le-mul_right, suc-mul, arith}
 use mathlib.Core.Path.{fun_ext}
 use borrow.Rule.Slice.PartMut.{put_mid}
 use Rattle.std.proofs.lemmas.List.{map-set, get_or-map, length-map, get_or-set_same, get_or-set_other}
@@ -12,7 +12,7 @@ use Rattle.rules.specs.Bounds.{party_fits}
 use Rattle.rows.specs.Meaning.{record_of, rows_of, party_of}
 use Rattle.rows.specs.declared.record.Record.{Record}
 use Rattle.rows.specs.declared.row.Row.{Row}
-use Rattle.tables.specs.Meaning.{no_record, record_at, part, parties_of}
+use Rattle.tables.specs.Meaning.{no_record, parties_of}
 
 -- ## Tests one after the other
 pub or_first : (a b : Bool) → true ≡ a → true ≡ (a || b)

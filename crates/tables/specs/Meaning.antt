@@ -2,7 +2,7 @@
 use Rattle.std.specs.Prelude.{ℕ, zero, suc, ◌*◌, List, [], map, length, take, drop, Ok, Err, Result, slice_index_or}
 use Rattle.messages.specs.Messages.{Msg}
 use Rattle.rules.specs.Party as model
-use Rattle.rules.specs.Step.{empty_row, newcomer}
+use Rattle.rules.specs.Step.{newcomer}
 use Rattle.rows.specs.Meaning.{record_of, rows_of}
 use Rattle.rows.specs.declared.record.Record.{Record}
 use Rattle.rows.specs.declared.row.Row.{Row}
@@ -48,7 +48,16 @@ module _ {V : Type 0} (bytes : V → List ℕ) where
   -- the ring over its tables and a wire, the rows cut into parts of this size
   abbrev pub ring_at : ℕ → Ring → List (Record V) → List (Row V) → List Msg → ℕ → agreement.Ring
   ring_at size ring records rows wire capacity =
-      ring_with ring (parties_of size records rows) (length records) (length rows) wire capacity
+      record {
+        n = ring.n;
+        f = ring.f;
+        faulty = named ring.faulty;
+        parties = parties_of size records rows;
+        records = length records;
+        rows = length rows;
+        wire = wire;
+        capacity = capacity;
+      }
 
   -- a ring that is set up cuts the rows by its own size
   abbrev pub ring_of : Ring → List (Record V) → List (Row V) → List Msg → ℕ → agreement.Ring

@@ -1,5 +1,5 @@
 -- Orders by their bytes: what to do (1 byte), and the pace (2 bytes), 0 where it is none.
-use Rattle.std.specs.Prelude.{ℕ, Bool, not, ◌&&◌, ◌||◌, List, [], ◌∷◌, length, take, drop, replicate, ◌==◌, nat_lt, slice_index}
+use Rattle.std.specs.Prelude.{ℕ, Bool, not, ◌&&◌, ◌||◌, List, ◌∷◌, length, take, drop, replicate, ◌==◌, nat_lt, slice_index}
 use Rattle.std.specs.Int.Digits.{number_from_digits}
 use Rattle.octets.specs.Bytes.{be}
 use Rattle.values.specs.Paces.{pace_fits}

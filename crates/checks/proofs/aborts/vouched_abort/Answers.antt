@@ -1,4 +1,3 @@
-use Rattle.std.proofs.Common.{ℕ}
 use Rattle.rows.specs.Meaning.{rows_of}
 use Rattle.checks.proofs.Turns.{largest_by}
 use Rattle.checks.proofs.aborts.vouched_abort.Goals as goal

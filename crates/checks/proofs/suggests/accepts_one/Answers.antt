@@ -1,4 +1,4 @@
-use Rattle.std.proofs.Common.{◌≡◌, sym, ap, ◌∙◌, lt-ltb, ne_eqb}
+use Rattle.std.proofs.Common.{sym, ap, ◌∙◌, lt-ltb, ne_eqb}
 use Rattle.std.specs.Option.{option_map}
 use Rattle.rules.specs.Tests.{accepts}
 use Rattle.rows.specs.Meaning.{setting_of, party_of, suggest_of}

@@ -1,4 +1,4 @@
-use Rattle.std.proofs.Common.{[], arith}
+use Rattle.std.proofs.Common.{arith}
 use Rattle.messages.specs.Meaning.{message}
 use Rattle.agreement.specs.Calls.{said}
 use Rattle.tables.specs.Meaning.{ring_of}

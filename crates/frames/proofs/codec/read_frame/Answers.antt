@@ -1,10 +1,6 @@
-use Rattle.std.proofs.Common.{◌≡◌, ℕ, ◌+◌, ◌-◌, ◌<◌, List, length, take, drop, sym, refl, ap, ◌∙◌, arith}
+use Rattle.std.proofs.Common.{◌<◌, sym, refl, ap, ◌∙◌, arith}
 use Rattle.std.specs.Int.Digits.{AllBelowBase}
-use Rattle.std.proofs.lemmas.List.{take_rest}
 use Rattle.std.proofs.ByRecursion.{All-from_get_or}
-use Rattle.messages.specs.Messages.{Msg}
-use Rattle.messages.specs.Meaning.{message}
-use Rattle.frames.specs.Frames.{fields}
 use Rattle.frames.proofs.Back.{writes_back}
 use Rattle.frames.proofs.Calls.{fields_are, no_length, no_zero, no_value, no_second, no_range, is-message, first_part, second_part}
 use Rattle.frames.proofs.codec.read_frame.Goals as goal

@@ -1,4 +1,4 @@
-use Rattle.std.proofs.Common.{◌≡◌, ◌≤◌, length, take, sym, refl, ap, ◌∙◌, arith}
+use Rattle.std.proofs.Common.{◌≤◌, length, take, sym, ap, ◌∙◌, arith}
 use Rattle.messages.specs.Meaning.{message}
 use Rattle.frames.specs.Frames.{frame_length, unframe}
 use Rattle.frames.proofs.Calls.{front_back, is-written, is-after}

@@ -1,4 +1,4 @@
-use Rattle.std.proofs.Common.{◌≡◌, ◌+◌, ◌*◌, ◌++◌, length, sym, refl, ap, ◌∙◌, arith}
+use Rattle.std.proofs.Common.{◌+◌, refl, ap, ◌∙◌, arith}
 use Rattle.octets.specs.Bytes.{over}
 use Rattle.messages.specs.Meaning.{message}
 use Rattle.frames.specs.Frames.{head, frame}

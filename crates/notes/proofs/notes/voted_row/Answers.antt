@@ -1,4 +1,4 @@
-use Rattle.std.proofs.Common.{◌≡◌, sym, arith}
+use Rattle.std.proofs.Common.{◌≡◌, arith}
 use Rattle.notes.proofs.Tables.{vote_7, vote_8, vote_9, with_votes}
 use Rattle.notes.proofs.notes.voted_row.Goals as goal
 

@@ -1,10 +1,7 @@
-use Rattle.std.proofs.Common.{◌≡◌, ℕ, ◌<◌, ◌≤◌, Bool, true, false, cond, ◌&&◌, ◌||◌, eqb, length, sym, refl, ap, ◌∙◌, arith}
-use Rattle.std.specs.Option.{option_map}
+use Rattle.std.proofs.Common.{◌≡◌, ◌≤◌, sym, arith}
 use Rattle.messages.specs.Meaning.{message}
-use Rattle.rules.specs.Party.{Row, Party, Proposal}
-use Rattle.rules.specs.Step.{propose, on_vote, wake, react}
-use Rattle.rows.specs.Meaning.{setting_of, record_of, party_of, suggest_of, proposal_of}
-use Rattle.posting.proofs.Steps.{takes_same, takes_before, takes_after, does_same, does_nothing, does_both, steps_fit}
+use Rattle.rows.specs.Meaning.{setting_of, party_of}
+use Rattle.posting.proofs.Steps.{takes_same, does_same}
 use Rattle.party.proofs.ByKind.{kind_1, kind_2, kind_3, kind_4, kind_5_to_7, kind_8, kind_9, kind_10, kind_11}
 use Rattle.party.proofs.step.by_kind.Goals as goal
 use Rattle.party.proofs.step.by_kind.Goals.{in_default-via-then-m-lt1, in_default-via-else-m-lt1+else-m-lt8}

@@ -1,10 +1,8 @@
-use Rattle.std.proofs.Common.{◌≡◌, ℕ, ◌<◌, ◌≤◌, Bool, true, false, cond, ◌&&◌, ◌||◌, eqb, length, sym, refl, ap, ◌∙◌, arith}
-use Rattle.std.specs.Option.{option_map}
+use Rattle.std.proofs.Common.{◌||◌, eqb, ap, arith}
 use Rattle.messages.specs.Meaning.{message}
-use Rattle.rules.specs.Party.{Row, Party, Proposal}
-use Rattle.rules.specs.Step.{propose, on_vote, wake, react}
-use Rattle.rows.specs.Meaning.{setting_of, record_of, party_of, suggest_of, proposal_of}
-use Rattle.posting.proofs.Steps.{takes_same, takes_before, takes_after, does_same, does_nothing, does_both, steps_fit}
+use Rattle.rules.specs.Step.{on_vote, wake}
+use Rattle.rows.specs.Meaning.{setting_of, party_of}
+use Rattle.posting.proofs.Steps.{takes_before, takes_after, does_both, steps_fit}
 use Rattle.party.proofs.step.on_key3.Goals as goal
 
 pub on_vote-votes-requires : goal.on_vote-votes-requires

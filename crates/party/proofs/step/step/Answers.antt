@@ -1,6 +1,5 @@
-use Rattle.std.proofs.Common.{◌≡◌, true, sym, ap, ◌∙◌}
+use Rattle.std.proofs.Common.{ap, ◌∙◌}
 use Rattle.messages.specs.Meaning.{message}
-use Rattle.rules.specs.Party.{Party}
 use Rattle.rules.specs.Bounds.{party_fits}
 use Rattle.rules.specs.Facts.{Seated, Fits}
 use Rattle.rules.proofs.Few.{posts-few}

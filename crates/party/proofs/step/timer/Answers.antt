@@ -1,12 +1,10 @@
-use Rattle.std.proofs.Common.{◌≡◌, true, sym, ap, ◌∙◌}
-use Rattle.messages.specs.Meaning.{message}
-use Rattle.rules.specs.Party.{Party}
+use Rattle.std.proofs.Common.{ap, ◌∙◌}
 use Rattle.rules.specs.Bounds.{party_fits}
 use Rattle.rules.specs.Facts.{Seated, Fits}
 use Rattle.rules.proofs.Few.{posts-few}
 use Rattle.rules.proofs.Ranges.{posts-in_range, bounds_kept}
 use Rattle.rows.specs.Meaning.{setting_of, party_of}
-use Rattle.posting.proofs.Within.{all_values, takes_own, kind-low, kind-high}
+use Rattle.posting.proofs.Within.{all_values, takes_own}
 use Rattle.party.proofs.step.timer.Goals as goal
 
 pub on_time_out-requires : goal.on_time_out-requires

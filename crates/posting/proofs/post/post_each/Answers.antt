@@ -1,4 +1,4 @@
-use Rattle.std.proofs.Common.{◌≡◌, ℕ, ◌+◌, ◌<◌, ◌≤◌, Bool, true, false, length, sym, refl, ap, ◌∙◌, subst, arith}
+use Rattle.std.proofs.Common.{◌≡◌, ℕ, ◌+◌, ◌<◌, Bool, length, sym, ap, ◌∙◌, subst, arith}
 use Rattle.messages.specs.Messages.{Msg}
 use Rattle.messages.specs.Meaning.{message}
 use Rattle.rules.specs.Posts.{to_each}

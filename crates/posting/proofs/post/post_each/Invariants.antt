@@ -1,4 +1,4 @@
-use Rattle.std.proofs.Common.{◌≡◌, ◌≤◌}
+use Rattle.std.proofs.Common.{◌≤◌}
 use Rattle.messages.specs.Meaning.{message}
 use Rattle.rules.specs.Posts.{to_each}
 use Rattle.rows.specs.Meaning.{rows_of}

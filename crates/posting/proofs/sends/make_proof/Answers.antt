@@ -1,7 +1,7 @@
-use Rattle.std.proofs.Common.{ℕ, Bool, true, eqb, ap}
+use Rattle.std.proofs.Common.{ℕ, Bool, eqb, ap}
 use Rattle.messages.specs.Messages.{Msg}
-use Rattle.rules.specs.Posts.{view_msg, proof_msg, propose_msg, vote_msg}
-use Rattle.rows.specs.Meaning.{setting_of, keyed_of, proof_of, rows_of}
+use Rattle.rules.specs.Posts.{proof_msg}
+use Rattle.rows.specs.Meaning.{setting_of, proof_of, rows_of}
 use Rattle.posting.specs.Posting.{addressed}
 use Rattle.posting.proofs.Lists.{takes_as, posted_as}
 use Rattle.posting.proofs.sends.make_proof.Goals as goal

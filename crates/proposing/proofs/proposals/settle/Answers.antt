@@ -1,10 +1,8 @@
-use Rattle.std.proofs.Common.{◌≡◌, ℕ, Bool, true, false, cond, ◌&&◌, ◌||◌, eqb, List, length, sym, refl, ap, ◌∙◌, arith}
+use Rattle.std.proofs.Common.{sym}
 use Rattle.messages.specs.Meaning.{message}
-use Rattle.rules.specs.Party.{Row, Party, Proposal}
-use Rattle.rows.specs.Meaning.{setting_of, record_of, party_of, proposal_of}
+use Rattle.rows.specs.Meaning.{setting_of, party_of}
 use Rattle.posting.proofs.Steps.{takes_same, does_same, does_nothing}
-use Rattle.proposing.specs.Proposals.{next_state, next_of, take_up, settled}
-use Rattle.proposing.proofs.Settled.{settled-still, settled-taken, settled-propose, settled-wake, proof-told, same_next}
+use Rattle.proposing.proofs.Settled.{settled-still, settled-taken}
 use Rattle.proposing.proofs.proposals.settle.Goals as goal
 
 pub take_state-requires : goal.take_state-requires

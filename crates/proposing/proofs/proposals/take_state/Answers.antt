@@ -1,10 +1,7 @@
-use Rattle.std.proofs.Common.{◌≡◌, ℕ, Bool, true, false, cond, ◌&&◌, ◌||◌, eqb, List, length, sym, refl, ap, ◌∙◌, arith}
-use Rattle.messages.specs.Meaning.{message}
-use Rattle.rules.specs.Party.{Row, Party, Proposal}
-use Rattle.rows.specs.Meaning.{setting_of, record_of, party_of, proposal_of}
-use Rattle.posting.proofs.Steps.{takes_same, does_same, does_nothing}
-use Rattle.proposing.specs.Proposals.{next_state, next_of, take_up, settled}
-use Rattle.proposing.proofs.Settled.{settled-still, settled-taken, settled-propose, settled-wake, proof-told, same_next}
+use Rattle.std.proofs.Common.{sym, refl, ap}
+use Rattle.rows.specs.Meaning.{setting_of, party_of, proposal_of}
+use Rattle.posting.proofs.Steps.{does_same, does_nothing}
+use Rattle.proposing.specs.Proposals.{take_up}
 use Rattle.proposing.proofs.proposals.take_state.Goals as goal
 
 pub returns-in-Echoed : goal.returns-in-Echoed

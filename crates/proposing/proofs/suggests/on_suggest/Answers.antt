@@ -1,10 +1,8 @@
-use Rattle.std.proofs.Common.{◌≡◌, ℕ, ◌<◌, ◌≤◌, Bool, true, false, cond, ◌&&◌, ◌||◌, eqb, length, sym, refl, ap, ◌∙◌, arith}
-use Rattle.std.specs.Option.{option_map}
+use Rattle.std.proofs.Common.{ℕ, sym, ap, arith}
 use Rattle.messages.specs.Meaning.{message}
-use Rattle.rules.specs.Party.{Row, Party, Proposal}
-use Rattle.rules.specs.Step.{propose, on_vote, wake, react}
-use Rattle.rows.specs.Meaning.{setting_of, record_of, party_of, suggest_of, proposal_of}
-use Rattle.posting.proofs.Steps.{takes_same, takes_before, takes_after, does_same, does_nothing, does_both, steps_fit}
+use Rattle.rules.specs.Party.{Row, Party}
+use Rattle.rows.specs.Meaning.{setting_of, record_of, party_of}
+use Rattle.posting.proofs.Steps.{takes_same, does_same, does_nothing}
 use Rattle.proposing.proofs.Ways.{suggest_proposed, suggest-still}
 use Rattle.proposing.proofs.suggests.on_suggest.Goals as goal
 

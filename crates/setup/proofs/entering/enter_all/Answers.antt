@@ -1,7 +1,6 @@
-use Rattle.std.proofs.Common.{◌≡◌, ◌+◌, sym, ap, ◌∙◌, subst, arith}
-use Rattle.agreement.specs.Ring.{setting}
+use Rattle.std.proofs.Common.{◌≡◌, ◌+◌, sym, ap, ◌∙◌, arith}
 use Rattle.rules.specs.Step.{enter, newcomer}
-use Rattle.agreement.specs.Calls.{stepped, planned}
+use Rattle.agreement.specs.Calls.{stepped}
 use Rattle.tables.specs.Meaning.{ring_of}
 use Rattle.turns.specs.Meaning.{kind_of, setting_in}
 use Rattle.setup.specs.Meaning.{plan_of}

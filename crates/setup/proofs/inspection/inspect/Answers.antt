@@ -1,5 +1,4 @@
 use Rattle.std.proofs.Common.{eqb, leb, ap, ◌∙◌}
-use Rattle.wires.specs.Wire.{room_left}
 use Rattle.setup.proofs.inspection.inspect.Goals as goal
 
 pub returns : goal.returns

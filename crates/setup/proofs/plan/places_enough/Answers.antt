@@ -1,4 +1,4 @@
-use Rattle.std.proofs.Common.{◌≡◌, ◌*◌, leb, length, sym, ap, ◌∙◌, arith}
+use Rattle.std.proofs.Common.{◌*◌, leb, length, ap, arith}
 use Rattle.setup.proofs.Tests.{few-own, few-records, by_rows}
 use Rattle.setup.proofs.plan.places_enough.Goals as goal
 

@@ -1,4 +1,4 @@
-use Rattle.std.proofs.Common.{◌≡◌, ◌+◌, ◌-◌, ◌≤◌, length, Ok, Err}
+use Rattle.std.proofs.Common.{◌≡◌, ◌+◌, ◌-◌, ◌≤◌, length, Ok}
 use Rattle.sheet_lines.specs.Lines.{lines}
 use Rattle.sheet.specs.Sheets.{sized}
 use Rattle.sheet.proofs.Eaches.{some_calls}

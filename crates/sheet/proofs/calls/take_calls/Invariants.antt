@@ -1,4 +1,4 @@
-use Rattle.std.proofs.Common.{◌≡◌, ◌+◌, ◌-◌, ◌≤◌, length, Ok, Err, vec_items, vec_len}
+use Rattle.std.proofs.Common.{◌≡◌, ◌+◌, ◌-◌, ◌≤◌, length, Ok, vec_items}
 use Rattle.sheet_lines.specs.Lines.{lines}
 use Rattle.sheet.proofs.Eaches.{some_calls}
 use Rattle.sheet.proofs.calls.take_calls.Given as goal

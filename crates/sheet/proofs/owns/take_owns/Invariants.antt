@@ -1,4 +1,4 @@
-use Rattle.std.proofs.Common.{◌≡◌, ◌+◌, ◌-◌, map, length, take, drop, replicate, Ok, Err}
+use Rattle.std.proofs.Common.{◌≡◌, ◌+◌, ◌-◌, map, length, take, drop, replicate, Ok}
 use Rattle.sheet_lines.specs.Lines.{lines}
 use Rattle.sheet.specs.Sheets.{own_values}
 use Rattle.sheet.proofs.owns.take_owns.Given as goal

@@ -1,9 +1,9 @@
-use Rattle.std.proofs.Common.{◌≡◌, ◌+◌, ◌≤◌, replicate, Ok, Err, sym, refl, ap, ◌∙◌, arith, lit<}
+use Rattle.std.proofs.Common.{replicate, Ok, sym, ap, ◌∙◌, arith, lit<}
 use Rattle.std.proofs.lemmas.Result.{err_from_is_err_and}
 use Rattle.sheet_fields.specs.Texts.{block_text, order_text}
 use Rattle.sheet_lines.specs.Lines.{lines, line_after}
 use Rattle.sheet_lines.specs.declared.kind.Kind.TheVariants.{Blocks, Orders}
-use Rattle.sheet.specs.Sheets.{fault_part, fault_lines, own_list, set_with}
+use Rattle.sheet.specs.Sheets.{fault_part, fault_lines, own_list}
 use Rattle.sheet.proofs.Parts.{kind_at, count_at, count_small, stop_count, stop_faults, stop_own, whole_part, set_same}
 use Rattle.sheet.proofs.plan.read_plan.Goals as goal
 

@@ -1,5 +1,5 @@
 use Rattle.sheet_fields.proofs.Cutting.{before_at, before_all}
-use Rattle.std.proofs.Common.{◌<◌, length, arith}
+use Rattle.std.proofs.Common.{arith}
 use Rattle.sheet_fields.proofs.cuts.place_of.Goals as goal
 
 pub returns-then-s-i : goal.returns-then-s-i

@@ -1,6 +1,6 @@
-use Rattle.std.proofs.Common.{◌≡◌, ℕ, ◌+◌, ◌-◌, ◌^◌, ◌<◌, ◌≤◌, true, length, Some, None, sym, ap, ◌∙◌, arith, rules}
+use Rattle.std.proofs.Common.{◌+◌, ◌-◌, ◌^◌, length, Some, ap, ◌∙◌, rules}
 use Rattle.std.proofs.lemmas.Result.{err_from_is_err_and}
-use Rattle.sheet_fields.specs.Cuts.{understood, before, after, has, pieces}
+use Rattle.sheet_fields.specs.Cuts.{pieces}
 use Rattle.sheet_fields.specs.Numbers.{number, between}
 use Rattle.sheet_fields.specs.Parties.{rising}
 use Rattle.sheet_fields.proofs.Sets.{between_bounds, rising_end_none, rising_end, rising_none, rising_more}

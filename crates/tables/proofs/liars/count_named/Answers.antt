@@ -1,4 +1,4 @@
-use Rattle.std.proofs.Common.{◌≡◌, ◌+◌, ◌≤◌, sym, ◌∙◌, arith}
+use Rattle.std.proofs.Common.{sym, ◌∙◌, arith}
 use Rattle.tables.proofs.Words.{count_more, count_same}
 use Rattle.agreement.specs.Calls.{named}
 use Rattle.tables.proofs.liars.count_named.Goals as goal

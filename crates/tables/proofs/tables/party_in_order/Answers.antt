@@ -1,4 +1,4 @@
-use Rattle.std.proofs.Common.{◌≡◌, sym, ap, ◌∙◌, arith}
+use Rattle.std.proofs.Common.{arith}
 use Rattle.tables.proofs.Parts.{or_first, or_second, party_tested}
 use Rattle.tables.proofs.tables.party_in_order.Goals as goal
 

@@ -1,14 +1,14 @@
-use Rattle.std.proofs.Common.{◌≡◌, ◌+◌, ◌-◌, ◌≤◌, true, [], length, get_or, take, drop, set, sym, refl, ap, ◌∙◌, subst, arith, rules}
+use Rattle.std.proofs.Common.{◌+◌, ◌-◌, ◌≤◌, [], length, get_or, take, drop, set, ap, arith, rules}
 use borrow.Author.Rules.{scaled_fits≤}
 use borrow.Rule.Slice.PartMut.{put_mid}
 use Rattle.messages.specs.Meaning.{message}
-use Rattle.rules.specs.Step.{step, on_timer, enter, newcomer}
+use Rattle.rules.specs.Step.{step}
 use Rattle.rows.specs.Meaning.{party_of}
 use Rattle.tables.specs.Meaning.{parties_of, ring_of}
 use Rattle.tables.proofs.Fitting.{one_fits, turn_fits}
 use Rattle.turns.specs.Meaning.{setting_in}
 use Rattle.std.proofs.lemmas.List.{length-set}
-use Rattle.turns.proofs.Turning.{turned, part-kept, part_whole, part_read, part-written, part_fits, part_early}
+use Rattle.turns.proofs.Turning.{turned, part-kept, part_whole, part_read, part-written, part_fits}
 use Rattle.turns.proofs.handling.receive.Goals as goal
 
 pub offset_bounds-records-to : goal.offset_bounds-records-to

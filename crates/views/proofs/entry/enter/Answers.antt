@@ -1,9 +1,9 @@
-use Rattle.std.proofs.Common.{◌≡◌, ◌+◌, ◌^◌, ◌<◌, sym, refl, ap, ◌∙◌, arith}
+use Rattle.std.proofs.Common.{sym, refl, arith}
 use Rattle.rows.specs.Meaning.{setting_of, party_of}
 use Rattle.posting.proofs.Lists.{takes_first, takes_rest, posted_three, three_fit}
 use Rattle.posting.proofs.Steps.{takes_same, does_same}
 use Rattle.posting.proofs.Choosing.{two_parts}
-use Rattle.views.proofs.Ways.{enter_as, in_view}
+use Rattle.views.proofs.Ways.{enter_as}
 use Rattle.views.proofs.entry.enter.Goals as goal
 
 pub send_view-requests-requires : goal.send_view-requests-requires

@@ -1,5 +1,4 @@
 use Rattle.std.proofs.Common.{◌≡◌, sym, ap, ◌∙◌, mod-lt, arith, eq-eqb, ne_eqb}
-use Rattle.rules.specs.Party.{Row}
 use Rattle.rules.specs.Posts.{suggest_msg}
 use Rattle.rules.specs.Thresholds.{primary}
 use Rattle.rows.specs.Meaning.{setting_of, rows_of, suggest_of}

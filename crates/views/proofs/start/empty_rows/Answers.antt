@@ -1,4 +1,3 @@
-use Rattle.std.proofs.Common.{◌≡◌}
 use Rattle.std.proofs.lemmas.List.Edits.{map_over_more}
 use Rattle.rows.proofs.Senders.{wholly_mapped}
 use Rattle.views.proofs.Newcomers.{all_blank, blank_row}

@@ -1,4 +1,4 @@
-use Rattle.std.proofs.Common.{◌≡◌, ℕ, cond, eqb, Some, None, Option, ap, ◌∙◌}
+use Rattle.std.proofs.Common.{ℕ, cond, eqb, None, Option, ap, ◌∙◌}
 use mathlib.Core.Path.{fun_ext}
 use Rattle.rules.specs.Party.{Keyed, Record, with_field}
 use Rattle.rules.specs.Step.{first_field, newcomer}

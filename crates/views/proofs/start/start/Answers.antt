@@ -1,4 +1,4 @@
-use Rattle.std.proofs.Common.{◌≡◌, true, sym, ap, ◌∙◌, arith}
+use Rattle.std.proofs.Common.{◌≡◌, sym, ap, ◌∙◌, arith}
 use Rattle.rules.specs.Bounds.{party_fits}
 use Rattle.rules.specs.Facts.{Seated, Fits, values_fit}
 use Rattle.rules.specs.Step.{newcomer, enter}

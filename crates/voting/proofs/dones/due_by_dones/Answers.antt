@@ -1,4 +1,3 @@
-use mathlib.Core.Path.{sym}
 use Rattle.checks.proofs.Turns.{none_there, some_there, and_then_right, and_not_left}
 use Rattle.voting.proofs.dones.due_by_dones.Goals as goal
 

@@ -1,11 +1,5 @@
-use mathlib.Core.Path.{◌≡◌, refl, sym, ap, ◌∙◌}
-use native.Mathlib.Omega.{arith}
-use Prim.Native.Nat.{ℕ}
-use lib.ListN.{length}
-use Rattle.messages.specs.Meaning.{message}
-use Rattle.rules.specs.Party.{Row, Party}
-use Rattle.rows.specs.Meaning.{setting_of, party_of, record_of}
-use Rattle.posting.proofs.Steps.{takes_same, takes_before, takes_after, does_same, does_nothing, does_both, does_then}
+use mathlib.Core.Path.{sym}
+use Rattle.posting.proofs.Steps.{takes_same, does_same, does_nothing}
 use Rattle.posting.proofs.Choosing.{passed, failed}
 use Rattle.voting.proofs.dones.follow_done.Goals as goal
 

@@ -1,11 +1,10 @@
-use mathlib.Core.Path.{◌≡◌, refl, sym, ap, ◌∙◌}
+use mathlib.Core.Path.{sym, ap}
 use native.Mathlib.Omega.{arith}
 use Prim.Native.Nat.{ℕ}
-use lib.ListN.{length}
 use Rattle.messages.specs.Meaning.{message}
 use Rattle.rules.specs.Party.{Row, Party}
 use Rattle.rows.specs.Meaning.{setting_of, party_of, record_of}
-use Rattle.posting.proofs.Steps.{takes_same, takes_before, takes_after, does_same, does_nothing, does_both, does_then}
+use Rattle.posting.proofs.Steps.{takes_same, takes_before, does_same, does_then}
 use Rattle.rules.specs.Step.{join_done, decide}
 use Rattle.voting.proofs.Ways.{done_both, decide_quiet}
 use Rattle.voting.proofs.dones.on_done.Goals as goal

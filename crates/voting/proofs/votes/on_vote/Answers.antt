@@ -1,10 +1,8 @@
-use mathlib.Core.Path.{◌≡◌, sym, ap, ◌∙◌}
+use mathlib.Core.Path.{sym, ap}
 use native.Mathlib.Omega.{arith}
 use Prim.Native.Nat.{ℕ}
-use lib.ListN.{length}
 use Rattle.messages.specs.Meaning.{message}
 use Rattle.rules.specs.Party.{Row, Party}
-use Rattle.rules.specs.Step.{on_vote, announce}
 use Rattle.rows.specs.Meaning.{setting_of, party_of, record_of}
 use Rattle.posting.proofs.Steps.{takes_same, does_same, does_nothing}
 use Rattle.voting.proofs.Ways.{vote_announced, vote-still}

@@ -1,4 +1,4 @@
-use Rattle.std.proofs.Common.{min, arith}
+use Rattle.std.proofs.Common.{arith}
 use Rattle.frames.specs.Frames.{frame_length}
 use Rattle.frame_wire.specs.Buffer.{heard}
 use Rattle.frame_wire.proofs.Slots.{length_listing, all_listed}

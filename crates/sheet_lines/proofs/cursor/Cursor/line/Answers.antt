@@ -1,7 +1,6 @@
-use Rattle.std.proofs.Common.{◌≡◌, ◌+◌, ◌-◌, ◌<◌, ◌≤◌, List, [], length, take, drop, sym, refl, ap, ◌∙◌, subst, arith, rules}
+use Rattle.std.proofs.Common.{◌+◌, ◌-◌, length, take, drop, sym, refl, ap, ◌∙◌, subst, arith}
 use Rattle.std.proofs.lemmas.List.{get_or_past, take_rest}
 use Rattle.sheet_fields.specs.Cuts.{before}
-use Rattle.sheet_lines.specs.Lines.{kept}
 use Rattle.sheet_lines.proofs.Walk.{Along, none_left, next_line, last_line, line_within, kept_not, kept_long, kept_whole}
 use Rattle.sheet_lines.proofs.cursor.Cursor.line.Goals as goal
 

@@ -1,5 +1,4 @@
-use Rattle.std.proofs.Common.{◌≡◌, ◌++◌, sym, arith, rules}
-use Rattle.octets.specs.Bytes.{be}
+use Rattle.std.proofs.Common.{rules}
 use Rattle.values.proofs.Readings.{blocks_differ}
 use Rattle.values.proofs.block.BlockValue.same.Goals as goal
 
