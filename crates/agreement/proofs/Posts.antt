@@ -103,7 +103,7 @@ module _ (g : Setting) (me : ℕ) (p : Party) (m : Msg) where
       cond_both (leb p.rec.view (reached g (aborts g me p))) _ _ S
       (λ a. enter-posts _ (let h = leb-true _ _ a in omega arith) n) (λ a. still-posts _)
 
-  -- the end of a step on a done: what join-done posts, with the decision or without
+  -- the end of a step on a done: what join_done posts, with the decision or without
   pub done-posts : S (on_done g me p m)
   unfolding on_done
   done-posts =
