@@ -1,6 +1,6 @@
 -- What is promised of every shift, whatever the faulty parties send.
 use Rattle.std.specs.Prelude.{◌≡◌, ℕ, suc, ◌≤◌, Bool, true, false, cond, ◌&&◌, List, [], ◌∷◌, take, ◌==◌}
-use Rattle.std.specs.List.{AllByRecursion as All}
+use Rattle.std.specs.List.{AllByRecursion}
 use Rattle.messages.specs.Messages.{Msg}
 use Rattle.rules.specs.Thresholds.{primary}
 use Rattle.agreement.specs.Ring.{Kind, Ring, is_open, is_decided, setting, honest, shown}
@@ -13,7 +13,7 @@ abbrev pub between_honest : Ring → Msg → Bool
 between_honest s m = honest s m.from && honest s m.to
 
 abbrev pub NoneBetween : Ring → List Msg → Type 0
-NoneBetween s ms = All (λ m. between_honest s m ≡ false) ms
+NoneBetween s ms = AllByRecursion (λ m. between_honest s m ≡ false) ms
 
 -- ## Nothing said twice
 abbrev pub like : ℕ → ℕ → ℕ → ℕ → Msg → Bool

@@ -7,7 +7,7 @@ ghost use Rattle.rows.specs.Meaning.{setting_of, row_of, record_of, party_of, pr
 ghost use Rattle.heed.specs.Heed.{first_by, led_by, taken_in};
 
 use messages::message::Message;
-use notes::rows::row_from;
+use notes::entries::row_from;
 use rows::record::{Proposal, Record};
 use rows::row::Row;
 use rows::seat::Seat;

@@ -2,5 +2,5 @@
 #![tactic(auto)]
 
 pub mod clear;
+pub mod entries;
 pub mod notes;
-pub mod rows;

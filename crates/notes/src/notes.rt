@@ -4,7 +4,7 @@ ghost use Rattle.rules.specs.Counting.{upd};
 ghost use Rattle.rules.specs.Party.{with_request, with_abort, with_told, with_suggest, with_proof, with_vote};
 ghost use Rattle.rows.specs.Meaning.{row_of, rows_of, suggest_of, proof_of};
 
-use crate::rows::{put_row, row_from};
+use crate::entries::{put_row, row_from};
 use rows::keys::{Proof, Suggest};
 use rows::row::Row;
 use values::value::Value;

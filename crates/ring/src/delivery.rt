@@ -5,7 +5,7 @@ ghost use Rattle.agreement.specs.Runs.{call, hand as handing, repeat as repeatin
 ghost use Rattle.tables.specs.Meaning.{ring_of, answer_of};
 ghost use Rattle.turns.specs.Meaning.{kind_of};
 
-use delivery::delivery::bring;
+use handover::delivery::bring;
 use rows::record::Record;
 use rows::row::Row;
 use tables::refusal::Refusal;

@@ -1,6 +1,6 @@
 -- What holds of every step, whatever a party keeps and whatever message it is handed.
 use Rattle.std.specs.Prelude.{◌≡◌, ℕ, ◌+◌, ◌*◌, ◌<◌, ◌≤◌, Bool, true, ◌&&◌, List, length, replicate, Some, None, Option}
-use Rattle.std.specs.List.{AllByRecursion as All}
+use Rattle.std.specs.List.{AllByRecursion}
 use Rattle.messages.specs.Messages.{Msg, last_view, most_parties, value_fits, in_range}
 use Rattle.rules.specs.Party.{Setting, Keyed, Suggest, Proposal, nothing, waiting, echoed, dropped, Record, Party}
 use Rattle.rules.specs.Step.{step, on_timer, enter}
@@ -77,11 +77,11 @@ module _ (valid : List ℕ → Bool) (g : Setting) where
 -- whatever the kind of value, every step posts messages in range, in the party's own name, to parties of the ring
 pub record PostsInRange : Type 0 where
   pub by_message : (valid : List ℕ → Bool) (g : Setting) (me : ℕ) (p : Party) (m : Msg) →
-      Seated valid g me → Fits valid g p → Proper valid g m → All (OwnPost valid g me) (step g me p m).posts
+      Seated valid g me → Fits valid g p → Proper valid g m → AllByRecursion (OwnPost valid g me) (step g me p m).posts
   pub by_timer : (valid : List ℕ → Bool) (g : Setting) (me : ℕ) (p : Party) →
-      Seated valid g me → Fits valid g p → p.rec.view < last_view → All (OwnPost valid g me) (on_timer g me p).posts
+      Seated valid g me → Fits valid g p → p.rec.view < last_view → AllByRecursion (OwnPost valid g me) (on_timer g me p).posts
   pub by_entry : (valid : List ℕ → Bool) (g : Setting) (me : ℕ) (p : Party) (v : ℕ) →
-      Seated valid g me → Fits valid g p → p.rec.view ≤ v → v ≤ last_view → All (OwnPost valid g me) (enter g me p v).posts
+      Seated valid g me → Fits valid g p → p.rec.view ≤ v → v ≤ last_view → AllByRecursion (OwnPost valid g me) (enter g me p v).posts
 
 -- and it leaves all that the party keeps in range
 pub record BoundsKept : Type 0 where

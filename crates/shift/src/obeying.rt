@@ -7,7 +7,7 @@ ghost use Rattle.turns.specs.Meaning.{kind_of};
 ghost use Rattle.shift.specs.Meaning.{call_of, is_refused, refusals, end_of};
 
 use crate::call::Call;
-use delivery::delivery::bring;
+use handover::delivery::bring;
 use ring::delivery::{hand, repeat};
 use ring::lookup::show;
 use ring::losing::lose;

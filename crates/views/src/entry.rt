@@ -8,7 +8,7 @@ ghost use Rattle.posting.specs.Posting.{Takes, Posted, Does};
 
 use fields::fields::enter_view;
 use notes::clear::clear_rows;
-use notes::rows::row_from;
+use notes::entries::row_from;
 use posting::letters::suggest_letter;
 use posting::post::post_one;
 use posting::sends::{make_proof, send_view};

@@ -1,6 +1,6 @@
 // A wire: a list of waiting messages, each in range, and a capacity that never changes.
 ghost use Rattle.std.specs.Prelude.{◌≡◌, ℕ, ◌≤◌, true, List, length, is_ok, IfOk};
-ghost use Rattle.std.specs.List.{AllByRecursion as All};
+ghost use Rattle.std.specs.List.{AllByRecursion};
 ghost use Rattle.messages.specs.Messages.{Msg, in_range};
 ghost use Rattle.messages.specs.Meaning.{message};
 ghost use Rattle.wires.specs.Wire.{answer, room_left, has_place, looked, taken, may_post, post_answer, posted};
@@ -20,7 +20,7 @@ pub trait Wire<V: Value> {
     fn count(&self) -> usize
         ensures value { result ≡ length (waiting self.now) }
         ensures within { length (waiting self.now) ≤ capacity self.now }
-        ensures ranged { All (λ m. in_range V.Value.valid V.Value.width m ≡ true) (waiting self.now) };
+        ensures ranged { AllByRecursion (λ m. in_range V.Value.valid V.Value.width m ≡ true) (waiting self.now) };
 
     // How many more messages fit.
     fn room(&self) -> usize

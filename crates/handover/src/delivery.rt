@@ -7,7 +7,7 @@ ghost use Rattle.agreement.specs.Ring.{tables_fit};
 ghost use Rattle.agreement.specs.Calls.{said, deliver, bring_found, Gives};
 ghost use Rattle.tables.specs.Meaning.{ring_of, answer_of, result_of};
 ghost use Rattle.turns.specs.Meaning.{kind_of};
-ghost use Rattle.delivery.specs.Admission.{admitted};
+ghost use Rattle.handover.specs.Admission.{admitted};
 
 use members::members::{has_both, has_room};
 use messages::message::Message;

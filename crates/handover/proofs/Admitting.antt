@@ -5,7 +5,7 @@ use Rattle.wires.specs.Wire.{room_left}
 use Rattle.agreement.specs.Ring.{Kind, Ring, step_room}
 use Rattle.agreement.specs.Calls.{refused, Gives, refuse, deliver, bring_found}
 use Rattle.agreement.proofs.Obeyed.{gives}
-use Rattle.delivery.specs.Admission.{admitted}
+use Rattle.handover.specs.Admission.{admitted}
 
 -- ## The test
 -- what becomes of a message by the two tests

@@ -5,7 +5,7 @@ use Rattle.tables.specs.Meaning.{ring_of}
 use Rattle.tables.proofs.Fitting.{records_enough, rows_enough}
 use Rattle.turns.specs.Meaning.{kind_of}
 use Rattle.agreement.proofs.Obeyed.{both_known, reach_faulty, reach_honest}
-use Rattle.delivery.proofs.delivery.reach.Goals as goal
+use Rattle.handover.proofs.delivery.reach.Goals as goal
 
 pub returns-then-is_named : goal.returns-then-is_named
 returns-then-is_named g c =

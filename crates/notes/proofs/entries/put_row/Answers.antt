@@ -1,7 +1,7 @@
 use Rattle.std.proofs.Common.{◌-◌, ◌≤◌, length, arith, rules}
 use borrow.Author.Rules.{scaled_fits≤}
 use Rattle.rows.proofs.Senders.{row_put}
-use Rattle.notes.proofs.rows.put_row.Goals as goal
+use Rattle.notes.proofs.entries.put_row.Goals as goal
 
 pub offset_bounds-rows-i : goal.offset_bounds-rows-i
 offset_bounds-rows-i g c =

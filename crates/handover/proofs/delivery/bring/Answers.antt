@@ -7,8 +7,8 @@ use Rattle.agreement.proofs.Obeyed.{bring_all, reach_after, no_longer, room_for_
 use Rattle.tables.specs.Meaning.{ring_of}
 use Rattle.tables.specs.Refusals.{refusal_number}
 use Rattle.turns.specs.Meaning.{kind_of}
-use Rattle.delivery.proofs.Admitting.{let_through, bring-refused}
-use Rattle.delivery.proofs.delivery.bring.Goals as goal
+use Rattle.handover.proofs.Admitting.{let_through, bring-refused}
+use Rattle.handover.proofs.delivery.bring.Goals as goal
 
 pub reach-requires : goal.reach-requires
 reach-requires g c =

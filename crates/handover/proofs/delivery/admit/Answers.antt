@@ -1,8 +1,8 @@
 use Rattle.std.proofs.Common.{Err, sym, ap, ◌∙◌}
 use Rattle.wires.specs.Wire.{fault_number}
 use Rattle.agreement.proofs.Obeyed.{none_there}
-use Rattle.delivery.specs.Admission.{admitted}
-use Rattle.delivery.proofs.delivery.admit.Goals as goal
+use Rattle.handover.specs.Admission.{admitted}
+use Rattle.handover.proofs.delivery.admit.Goals as goal
 
 pub returns-in_default : goal.returns-in_default
 returns-in_default g c =
