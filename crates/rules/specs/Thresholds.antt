@@ -1,5 +1,5 @@
 -- What makes a quorum, what makes a voucher, and who leads a view. Every rule asks here.
-use Rattle.std.specs.Prelude.{ℕ, ◌+◌, ◌-◌, ◌*◌, ◌%◌, Bool, ◌&&◌, leb, nat_le, nat_lt}
+use Rattle.std.specs.Prelude.{ℕ, ◌+◌, ◌-◌, ◌*◌, ◌%◌, Bool, ◌&&◌, nat_le, nat_lt}
 use Rattle.messages.specs.Messages.{between, most_parties}
 use Rattle.rules.specs.Counting.{count, largest}
 use Rattle.rules.specs.Party.{Setting}
@@ -27,8 +27,8 @@ voucher g p = nat_le (voucher_size g.f) (count p g.n)
 
 -- the largest number that a voucher of entries has reached: the (f + 1)th largest entry
 abbrev pub vouched : Setting → (ℕ → ℕ) → ℕ
-vouched g a = largest a (λ x. voucher g (λ j. leb x (a j))) g.n
+vouched g a = largest a (λ x. voucher g (λ j. nat_le x (a j))) g.n
 
 -- the largest number that a quorum of entries has reached: the (n - f)th largest entry
 abbrev pub reached : Setting → (ℕ → ℕ) → ℕ
-reached g a = largest a (λ x. quorum g (λ j. leb x (a j))) g.n
+reached g a = largest a (λ x. quorum g (λ j. nat_le x (a j))) g.n
