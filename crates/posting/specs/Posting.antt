@@ -4,7 +4,7 @@ use Rattle.std.specs.List.{AllByRecursion}
 use Rattle.messages.specs.Messages.{Msg, in_range}
 use Rattle.rules.specs.Party.{Row, Party, Step}
 use Rattle.posting.specs.declared.audience.Audience.{Audience}
-use Rattle.posting.specs.declared.audience.Audience.TheVariants.{AllByRecursion as Everyone, Joined}
+use Rattle.posting.specs.declared.audience.Audience.TheVariants.{All as Everyone, Joined}
 
 -- a wire with this capacity and list takes these posts: each is in range, there is room for all, and a number counts them
 pub record Takes (valid : List ℕ → Bool) (width capacity : ℕ) (waiting posts : List Msg) : Type 0 where
