@@ -4,7 +4,7 @@ ghost use Rattle.std.specs.Option.{option_map};
 ghost use Rattle.wires.specs.Wire.{room_left};
 ghost use Rattle.rules.specs.Counting.{count};
 ghost use Rattle.rules.specs.Bounds.{every};
-ghost use Rattle.agreement.specs.Calls.{named as is-named, own_of};
+ghost use Rattle.agreement.specs.Calls.{named as is_named, own_of};
 ghost use Rattle.tables.specs.Refusals.{refusal_number};
 ghost use Rattle.setup.specs.Order.{by_order};
 
@@ -70,9 +70,9 @@ pub fn inspect<V: Value, W: Wire<V>>(
     wire: &W,
 ) -> Inspection
     ensures named { result.named ≡ nat_lt planned.now.faulty (2 ^ planned.now.n) }
-    ensures few { result.few ≡ nat_le (count (is-named planned.now.faulty) planned.now.n) planned.now.f }
+    ensures few { result.few ≡ nat_le (count (is_named planned.now.faulty) planned.now.n) planned.now.f }
     ensures places { result.places ≡ (nat_le planned.now.n (length own.now) && (nat_le planned.now.n (length records.now) && nat_le (planned.now.n * planned.now.n) (length rows.now))) }
-    ensures owns { planned.now.n ≤ length own.now → result.owns ≡ every (λ i. is-named planned.now.faulty i || V.allows (own_of (map V.bytes own.now) i)) planned.now.n }
+    ensures owns { planned.now.n ≤ length own.now → result.owns ≡ every (λ i. is_named planned.now.faulty i || V.allows (own_of (map V.bytes own.now) i)) planned.now.n }
     ensures vacant { result.vacant ≡ (length (W.waiting wire.now) == 0) }
     ensures roomy { result.roomy ≡ nat_le (planned.now.n * planned.now.n) (room_left (W.capacity wire.now) (W.waiting wire.now)) }
 {

@@ -7,8 +7,8 @@ use Rattle.heed.specs.Heed.{first_by, led_by, taken_in}
 use Rattle.heed.proofs.heed.heeds.Goals as goal
 
 -- the test, with each of its parts told in another way
-same-facts : (k : ℕ) (r v v' a a' h l l' f f' : Bool) → r ≡ taken_in k v a h l f → v ≡ v' → a ≡ a' → l ≡ l' → f ≡ f' → r ≡ taken_in k v' a' h l' f'
-same-facts k r v v' a a' h l l' f f' e ev ea el ef =
+same_facts : (k : ℕ) (r v v' a a' h l l' f f' : Bool) → r ≡ taken_in k v a h l f → v ≡ v' → a ≡ a' → l ≡ l' → f ≡ f' → r ≡ taken_in k v' a' h l' f'
+same_facts k r v v' a a' h l l' f f' e ev ea el ef =
     e ∙ (ap (λ x. taken_in k x a h l f) ev ∙ (ap (λ x. taken_in k v' x h l f) ea ∙ (ap (λ x. taken_in k v' a' h x f) el ∙ ap (taken_in k v' a' h l') ef)))
 
 pub returns : goal.returns
@@ -16,7 +16,7 @@ returns g c =
     let v = g.V.Value in
     let s = setting_of v.width v.allows c.args.seat in
     let m = c.args.m.now in
-    same-facts m.kind _ _ _ _ _ _ _ _ _ _ c.takes_in.ensures c.is_open.ensures
+    same_facts m.kind _ _ _ _ _ _ _ _ _ _ c.takes_in.ensures c.is_open.ensures
     (ap (λ r. ltb r.request m.view) c.row_from-row.ensures)
     (c.is_led-led.ensures ∙ ap (λ k. led_by c.args.seat.me k m.from m.kind) c.primary_of.ensures)
     (c.is_first-first.ensures s ∙ ap (λ r. first_by s (proposal_of v.bytes c.args.own.now.proposal) r m.kind) c.row_from-row.ensures)

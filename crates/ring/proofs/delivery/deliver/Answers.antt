@@ -16,10 +16,10 @@ returns-then-not-tables_in_order g c =
     record { gives = unfit k s (cond c.args.keep (repeat c.args.place) (hand c.args.place)) s c.if-not-tables_in_order.ensures refl; untouched = (refl, refl) }
 
 -- kept, or taken out
-one-of-both : (k : Kind) (s : Ring) (i : ℕ) (keep : Bool) (a : Answer) (s' : Ring) → Gives (bring_found k s (looked s.wire i) (cond keep s.wire (taken s.wire i))) a s' →
+one_of_both : (k : Kind) (s : Ring) (i : ℕ) (keep : Bool) (a : Answer) (s' : Ring) → Gives (bring_found k s (looked s.wire i) (cond keep s.wire (taken s.wire i))) a s' →
     Gives (obey k s (cond keep (repeat i) (hand i))) a s'
-one-of-both k s i true a s' g = g
-one-of-both k s i false a s' g = g
+one_of_both k s i true a s' g = g
+one_of_both k s i false a s' g = g
 
 pub returns : goal.returns
 returns g c =
@@ -28,6 +28,6 @@ returns g c =
     let s = ring_of v.bytes c.args.ring.now c.args.records.now c.args.rows.now (g.W.Wire.waiting c.args.wire.now) (g.W.Wire.capacity c.args.wire.now) in
     record {
       gives = obeyed k s (cond c.args.keep (repeat c.args.place) (hand c.args.place)) (answer_of c.bring.result) _ c.if-not-tables_in_order.ensures
-          (one-of-both k s c.args.place c.args.keep (answer_of c.bring.result) _ c.bring.ensures.gives);
+          (one_of_both k s c.args.place c.args.keep (answer_of c.bring.result) _ c.bring.ensures.gives);
       untouched = c.bring.ensures.untouched;
     }
