@@ -67,8 +67,8 @@ fn obey_fitting<V: Value, W: Wire<V>>(
     }
 }
 
-// Makes all calls in order, and answers how many were refused. The tables are tested once: a call over tables that fit
-// leaves them so, and over others each call is refused and changes nothing.
+// Makes all calls in order, and answers how many were refused. The tables are tested once, and again by each show:
+// a call over tables that fit leaves them so, and over others each call is refused and changes nothing.
 pub fn obey_all<V: Value, W: Wire<V>>(
     ring: &Ring,
     records: &mut [Record<V>],
