@@ -1,20 +1,20 @@
 -- The places of a buffer, and what a write and a closed gap leave in them.
-use Rattle.std.proofs.Common.{◌≡◌, ℕ, suc, ◌+◌, ◌-◌, ◌*◌, ◌/◌, ◌<◌, ◌≤◌, min, Bool, true, cond, List, [], ◌∷◌, ◌++◌, map, length, get_or, take, drop, replicate, Some, None, Ok, unwrap_or, sym, ap, ◌∙◌, ⊎_elim, mul-le-mul_right, suc-mul, div-mul-le_self, arith}
+use Rattle.std.proofs.Common.{◌≡◌, ℕ, suc, ◌+◌, ◌-◌, ◌*◌, ◌/◌, ◌<◌, ◌≤◌, min, Bool, true, List, [], ◌∷◌, ◌++◌, map, length, get_or, take, drop, replicate, Ok, sym, ap, ◌∙◌, ⊎_elim, mul-le-mul_right, suc-mul, div-mul-le_self, arith}
 use lib.Seq.{paste}
-use Rattle.std.specs.List.{range_with_len, AllByRecursion as All}
+use Rattle.std.specs.List.{range_with_len}
 use Rattle.std.proofs.lemmas.List.FromFn.{length-map-range_with_len, get_or-map-range_with_len, map-range_with_len_more, fill_by_all}
 use Rattle.std.proofs.lemmas.List.Edits.{length-remove, get_or-remove_below, get_or-remove_above, length-paste}
 use Rattle.std.proofs.lemmas.List.{length-drop, length-append, length-take-le, drop-append-le, take-append-le, take-append-drop, drop-drop, drop_at, append_assoc}
-use Rattle.std.proofs.lemmas.Bool.{cases_lt, cases_Bool}
+use Rattle.std.proofs.lemmas.Bool.{cases_lt}
 use Rattle.octets.specs.Bytes.{over}
 use Rattle.octets.proofs.Writes.{length_over, part-over}
 use Rattle.messages.specs.Messages.{Msg, in_range}
-use Rattle.frames.specs.Frames.{frame_length, unframe, fields, is_frame}
-use Rattle.frames.proofs.Back.{framed}
+use Rattle.frames.specs.Frames.{frame_length}
+use Rattle.frames.proofs.Back.{spelled-ranged}
 use Rattle.wires.specs.Wire.{fixed_request, taken, looked}
 use Rattle.wires.proofs.Places.{taken_is, looked-at}
-use Rattle.wires.proofs.Ranges.{fixed_ranged, all_made}
-use Rattle.frame_wire.specs.Buffer.{places, slot, heard, frames_in, closed}
+use Rattle.wires.proofs.Ranges.{fixed_ranged}
+use Rattle.frame_wire.specs.Buffer.{places, heard, closed}
 
 -- a place that fits
 pub slot_fits : (i whole size : ℕ) → i < whole / size → i * size + size ≤ whole
@@ -91,17 +91,8 @@ pub part-kept : {A : Type 0} (xs ys : List A) (a s n b : ℕ) → b + s ≤ a �
 part-kept xs ys a s n b h k = ap (λ w. take s (drop b w)) (append_assoc (take a xs) (take n ys) (drop (a + n) xs)) ∙ part-before xs (take n ys ++ drop (a + n) xs) b s a h k
 
 -- what bytes mean is in range
-pub heard-ranged : (valid : List ℕ → Bool) (width : ℕ) → valid (replicate width 0) ≡ true → (bs : List ℕ) → in_range valid width (heard valid width bs) ≡ true
-unfolding unframe
-heard-ranged valid width blank bs =
-    let fair : Bool → Bool = λ b. in_range valid width (unwrap_or (cond b (Some (fields width bs)) None) (fixed_request width)) in
-    ⊎_elim
-    (λ h. ap fair h ∙ (framed valid width bs h).2)
-    (λ h. ap fair h ∙ fixed_ranged valid width blank)
-    (cases_Bool (is_frame valid width bs))
-
 pub heard_fair : (valid : List ℕ → Bool) (width : ℕ) → valid (replicate width 0) ≡ true → (bs : List ℕ) (m : Msg) → m ≡ heard valid width bs → in_range valid width m ≡ true
-heard_fair valid width blank bs m e = ap (in_range valid width) e ∙ heard-ranged valid width blank bs
+heard_fair valid width blank bs m e = ap (in_range valid width) e ∙ spelled-ranged valid width (fixed_request width) (fixed_ranged valid width blank) bs
 
 -- a buffer of places of `s` bytes, each heard as a message
 module _ (s : ℕ) (hear : List ℕ → Msg) where
@@ -169,7 +160,3 @@ module _ (s : ℕ) (buffer : List ℕ) (i count : ℕ) (h : i < count) (whole : 
 -- the same at a size that a call gave
 pub gap_at : (i count : ℕ) (buffer : List ℕ) (width size : ℕ) → size ≡ frame_length width → i < count → count ≤ places width buffer → (i * size + size ≤ count * size) × (count * size ≤ length buffer)
 gap_at i count buffer width size e h whole = gap_fits size buffer i count h (rw e whole)
-
--- the same at frames
-pub all_listed : (valid : List ℕ → Bool) (width : ℕ) (n : ℕ) (buffer : List ℕ) → valid (replicate width 0) ≡ true → All (λ m. in_range valid width m ≡ true) (frames_in valid width n buffer)
-all_listed valid width n buffer blank = all_made valid width blank (λ k. heard valid width (slot width buffer k)) (λ k. heard-ranged valid width blank (slot width buffer k)) (range_with_len 0 (min n (places width buffer)))

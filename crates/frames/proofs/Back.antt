@@ -1,8 +1,9 @@
 -- The laws of frames: a frame has its length, reads as its message, and is written back.
-use Rattle.std.proofs.Common.{◌≡◌, ℕ, ◌+◌, ◌≤◌, Bool, true, false, cond, ◌&&◌, eqb, List, [], ◌∷◌, ◌++◌, length, get_or, take, drop, Some, None, Option, sym, refl, ap, ◌∙◌, arith}
+use Rattle.std.proofs.Common.{◌≡◌, ℕ, ◌+◌, ◌≤◌, Bool, true, false, cond, ◌&&◌, eqb, List, [], ◌∷◌, ◌++◌, map, length, get_or, take, drop, Some, None, Option, unwrap_or, ⊎_elim, sym, refl, ap, ◌∙◌, arith}
 use Rattle.std.specs.Int.Digits.{number_from_digits, AllBelowBase}
-use Rattle.std.proofs.lemmas.Bool.{cond_both, cond-true, cond-false, and_from, and_parts, eqb-true, eq-eqb, ne_eqb}
+use Rattle.std.proofs.lemmas.Bool.{cond_both, cond-true, cond-false, and_from, and_parts, eqb-true, eq-eqb, ne_eqb, cases_Bool}
 use Rattle.std.proofs.lemmas.List.{drop-drop, drop_at, take_at, append_assoc, length-append}
+use Rattle.std.specs.List.{AllByRecursion as All}
 use Rattle.octets.specs.Bytes.{be}
 use Rattle.octets.proofs.Numbers.{number-be, be-part, part_rest}
 use Rattle.messages.specs.Messages.{Msg, in_range, earlier_fits}
@@ -67,6 +68,17 @@ framed valid width bs t =
     let p = and_parts (eqb (length bs) (frame_length width)) (eqb (get_or bs 3 0) 0 && in_range valid width (fields width bs)) t in
     let q = and_parts (eqb (get_or bs 3 0) 0) (in_range valid width (fields width bs)) p.1 in
     (eqb-true _ _ p.0, eqb-true _ _ q.0, q.1)
+
+-- what bytes spell is in range, where what stands for other bytes is
+pub spelled-ranged : (valid : List ℕ → Bool) (width : ℕ) (other : Msg) → in_range valid width other ≡ true → (bs : List ℕ) → in_range valid width (unwrap_or (unframe valid width bs) other) ≡ true
+unfolding unframe
+spelled-ranged valid width other fair bs =
+    let test : Bool → Bool = λ b. in_range valid width (unwrap_or (cond b (Some (fields width bs)) None) other) in
+    ⊎_elim (λ h. ap test h ∙ (framed valid width bs h).2) (λ h. ap test h ∙ fair) (cases_Bool (is_frame valid width bs))
+
+pub all_spelled : (valid : List ℕ → Bool) (width : ℕ) (other : Msg) → in_range valid width other ≡ true → (part : ℕ → List ℕ) (ks : List ℕ) → All (λ m. in_range valid width m ≡ true) (map (λ k. unwrap_or (unframe valid width (part k)) other) ks)
+all_spelled valid width other fair part [] = tt
+all_spelled valid width other fair part (k ∷ ks) = (spelled-ranged valid width other fair (part k), all_spelled valid width other fair part ks)
 
 -- the first four bytes, and the rest
 first_four : (bs : List ℕ) → 4 ≤ length bs → get_or bs 0 0 ∷ get_or bs 1 0 ∷ get_or bs 2 0 ∷ get_or bs 3 0 ∷ drop 4 bs ≡ bs

@@ -10,7 +10,7 @@ ghost use Rattle.frames.specs.declared.fault.FrameFault.TheVariants.{NotFrame};
 use crate::fault::FrameFault;
 use messages::message::Message;
 use messages::range::in_range;
-use octets::bytes::{put, u32_at, u32_bytes};
+use octets::bytes::{Number, number_at, put};
 use values::value::Value;
 
 // How many bytes stand before the values.
@@ -27,31 +27,26 @@ pub fn frame_length<V: Value>() -> usize
 fn word_of(previous: Option<u32>) -> u32
     ensures { result ≡ word previous }
 {
-    match previous {
-        Some(n) => n,
-        None => u32::MAX,
-    }
+    previous.unwrap_or(u32::MAX)
 }
 
 // The previous key that a word stands for.
 fn previous_of(n: u32) -> Option<u32>
     ensures { result ≡ unword n }
 {
-    if n == u32::MAX { None } else { Some(n) }
+    (n != u32::MAX).then_some(n)
 }
 
-// The bytes before the values.
-fn header<V: Value>(m: &Message<V>) -> [u8; 20]
-    ensures { result ≡ head (message V.bytes m.now) }
+// Writes the bytes before the values at a place.
+fn write_head<V: Value>(m: &Message<V>, out: &mut [u8], at: usize)
+    requires { at + 20 ≤ length out.old }
+    ensures { out.new ≡ over out.old at (head (message V.bytes m.now)) }
 {
-    let a = u32_bytes(m.view);
-    let b = u32_bytes(m.key);
-    let c = u32_bytes(m.second_key);
-    let d = u32_bytes(word_of(m.previous));
-    [
-        m.kind, m.from, m.to, 0, a[0], a[1], a[2], a[3], b[0], b[1], b[2], b[3], c[0], c[1], c[2],
-        c[3], d[0], d[1], d[2], d[3],
-    ]
+    put(out, at, &[m.kind, m.from, m.to, 0]);
+    put(out, at + 4, &m.view.to_bytes());
+    put(out, at + 8, &m.key.to_bytes());
+    put(out, at + 12, &m.second_key.to_bytes());
+    put(out, at + 16, &word_of(m.previous).to_bytes());
 }
 
 // Writes the frame of a message at a place of a buffer that has the room: the inner part of the
@@ -61,8 +56,7 @@ pub fn write_frame_at<V: Value>(m: &Message<V>, out: &mut [u8], at: usize)
     ensures { out.new ≡ over out.old at (frame (message V.bytes m.now)) }
 {
     let second = HEAD + V::width_of();
-    let head = header(m);
-    put(out, at, &head);
+    write_head(m, out, at);
     m.value.write(out, at + HEAD);
     m.second_value.write(out, at + second);
 }
@@ -91,53 +85,40 @@ pub fn write_frame<V: Value>(m: &Message<V>, out: &mut [u8]) -> Result<usize, Fr
 pub fn read_frame<V: Value>(from: &[u8]) -> Result<Message<V>, FrameFault>
     ensures { MatchResult result (λ m. (unframe V.valid V.width from.now ≡ Some (message V.bytes m)) × (frame (message V.bytes m) ≡ from.now)) (λ e. (unframe V.valid V.width from.now ≡ None) × (e ≡ NotFrame)) }
 {
-    if from.len() != frame_length::<V>() {
-        return Err(FrameFault::NotFrame);
-    }
-    if from[3] != 0 {
+    if from.len() != frame_length::<V>() || from[3] != 0 {
         return Err(FrameFault::NotFrame);
     }
     let second = HEAD + V::width_of();
-    let Some(value) = V::read(&from[HEAD..second]) else {
-        return Err(FrameFault::NotFrame);
-    };
-    let Some(second_value) = V::read(&from[second..]) else {
-        return Err(FrameFault::NotFrame);
-    };
+    // the four bytes of the head by their places, as the format numbers them
     let m = Message {
         kind: from[0],
         from: from[1],
         to: from[2],
-        view: u32_at(from, 4),
-        key: u32_at(from, 8),
-        value,
-        second_key: u32_at(from, 12),
-        second_value,
-        previous: previous_of(u32_at(from, 16)),
+        view: number_at(from, 4),
+        key: number_at(from, 8),
+        value: V::read(&from[HEAD..second]).ok_or(FrameFault::NotFrame)?,
+        second_key: number_at(from, 12),
+        second_value: V::read(&from[second..]).ok_or(FrameFault::NotFrame)?,
+        previous: previous_of(number_at(from, 16)),
     };
-    if !in_range(&m) {
-        return Err(FrameFault::NotFrame);
+    if in_range(&m) {
+        Ok(m)
+    } else {
+        Err(FrameFault::NotFrame)
     }
-    Ok(m)
 }
 
 // The frame of a message in range has the length.
-pub fn lengths_stand() -> u8
+pub fn lengths_stand()
     ensures { FrameLength }
-{
-    0
-}
+{}
 
 // A frame reads as the message that it was made of.
-pub fn reads_back() -> u8
+pub fn reads_back()
     ensures { ReadsBack }
-{
-    0
-}
+{}
 
 // A frame that was read is the frame of what was read.
-pub fn writes_back() -> u8
+pub fn writes_back()
     ensures { WritesBack }
-{
-    0
-}
+{}

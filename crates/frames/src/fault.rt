@@ -2,13 +2,18 @@
 ghost use Rattle.std.specs.Prelude.{◌≡◌};
 ghost use Rattle.frames.specs.Faults.{frame_number};
 
-#[derive(Clone, Copy, PartialEq, Eq, Debug)]
+use thiserror::Error;
+
+#[derive(Clone, Copy, PartialEq, Eq, Debug, Error)]
 pub enum FrameFault {
     // the buffer is shorter than a frame
+    #[error("the buffer is shorter than a frame")]
     Short,
     // a field is out of range, or an unused one is not 0 or blank
+    #[error("a field is out of range")]
     Range,
     // the bytes are no frame
+    #[error("the bytes are no frame")]
     NotFrame,
 }
 

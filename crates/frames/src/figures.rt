@@ -2,8 +2,6 @@
 ghost use Rattle.frames.specs.Figures.{Figures};
 
 // The figures hold of the definitions that the calls promise.
-pub fn figures_stand() -> u8
+pub fn figures_stand()
     ensures { Figures }
-{
-    0
-}
+{}

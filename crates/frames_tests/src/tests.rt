@@ -1,6 +1,8 @@
 use crate::case::Case;
 use crate::{block_cases, order_cases};
 use frames::codec::{frame_length, read_frame, write_frame};
+use frames::fault::FrameFault;
+use messages::kind::Kind;
 use messages::message::Message;
 use octets::bytes::put;
 use std::process::Abort;
@@ -10,60 +12,48 @@ use values::order::Order;
 use values::rate::Rate;
 use values::value::Value;
 
+// How many bytes a buffer has that is longer than every frame, to show that the rest stays as it was.
+const ROOM: usize = 60;
+
 // The value with these bytes.
 fn value_of<V: Value>(bytes: &[u8]) -> Result<V, Fail> {
     if bytes.len() != V::width_of() {
         return Err(Fail::new("a value of another width"));
     }
-    match V::read(bytes) {
-        Some(v) => Ok(v),
-        None => Err(Fail::new("no value has these bytes")),
-    }
+    V::read(bytes).ok_or_else(|| Fail::new("no value has these bytes"))
 }
 
 // The message of a case.
 fn message_of<V: Value>(c: &Case) -> Result<Message<V>, Fail> {
-    let value = value_of::<V>(c.value)?;
-    let second_value = value_of::<V>(c.second_value)?;
     Ok(Message {
         kind: c.kind,
         from: c.from,
         to: c.to,
         view: c.view,
         key: c.key,
-        value,
+        value: value_of(c.value)?,
         second_key: c.second_key,
-        second_value,
+        second_value: value_of(c.second_value)?,
         previous: c.previous,
     })
 }
 
-// Whether two messages have the same fields.
-fn alike<V: Value>(a: &Message<V>, b: &Message<V>) -> bool {
-    a.kind == b.kind
-        && a.from == b.from
-        && a.to == b.to
-        && a.view == b.view
-        && a.key == b.key
-        && a.value.same(&b.value)
-        && a.second_key == b.second_key
-        && a.second_value.same(&b.second_value)
-        && a.previous == b.previous
+// A refusal by its number, which is what the cases hold.
+fn refused(answer: Result<usize, FrameFault>) -> Result<u8, Fail> {
+    let fault = answer.err().ok_or_else(|| Fail::new("written"))?;
+    Ok(fault.number())
 }
 
 // A message in range is written as its frame, the bytes after it untouched, and is read back.
-fn good<V: Value>(rt: &impl Abort, c: &Case) -> Result<(), Fail> {
+fn good<V: Value + PartialEq>(rt: &impl Abort, c: &Case) -> Result<(), Fail> {
     let m = message_of::<V>(c)?;
-    let mut out = [170u8; 60];
+    let mut out = [170u8; ROOM];
     let n = write_frame(&m, &mut out)?;
     assert_eq!(rt; n, frame_length::<V>());
-    assert!(rt; n <= 60);
+    assert!(rt; n <= ROOM);
     assert!(rt; &out[..n] == c.frame);
-    for b in &out[n..] {
-        assert_eq!(rt; *b, 170);
-    }
-    let again = read_frame::<V>(c.frame)?;
-    assert!(rt; alike(&again, &m));
+    assert!(rt; out[n..].iter().all(|b| *b == 170));
+    assert!(rt; read_frame::<V>(c.frame)? == m);
     Ok(())
 }
 
@@ -76,9 +66,9 @@ fn settled<V: Value>(rt: &impl Abort, bytes: &[u8]) -> Result<bool, Fail> {
             Ok(false)
         }
         Ok(m) => {
-            let mut out = [0u8; 60];
+            let mut out = [0u8; ROOM];
             let n = write_frame(&m, &mut out)?;
-            assert!(rt; n <= 60);
+            assert!(rt; n <= ROOM);
             assert!(rt; &out[..n] == bytes);
             Ok(true)
         }
@@ -113,14 +103,9 @@ fn damaged<V: Value>(rt: &impl Abort, c: &Case, buffer: &mut [u8]) -> Result<(),
 // A message out of range is refused with 6, the buffer untouched; its bytes are no frame.
 fn bad<V: Value>(rt: &impl Abort, c: &Case) -> Result<(), Fail> {
     let m = message_of::<V>(c)?;
-    let mut out = [170u8; 60];
-    match write_frame(&m, &mut out) {
-        Ok(_) => return Err(Fail::new("written")),
-        Err(fault) => assert_eq!(rt; fault.number(), 6),
-    }
-    for b in &out {
-        assert_eq!(rt; *b, 170);
-    }
+    let mut out = [170u8; ROOM];
+    assert_eq!(rt; refused(write_frame(&m, &mut out))?, 6);
+    assert!(rt; out == [170u8; ROOM]);
     assert!(rt; !settled::<V>(rt, c.frame)?);
     Ok(())
 }
@@ -130,64 +115,63 @@ fn lengths<V: Value>(rt: &impl Abort, c: &Case) -> Result<(), Fail> {
     let m = message_of::<V>(c)?;
     for n in 0..c.frame.len() {
         assert!(rt; !settled::<V>(rt, &c.frame[..n])?);
-        assert!(rt; n <= 60);
-        let mut out = [170u8; 60];
-        match write_frame(&m, &mut out[..n]) {
-            Ok(_) => return Err(Fail::new("written")),
-            Err(fault) => assert_eq!(rt; fault.number(), 4),
-        }
-        for b in &out {
-            assert_eq!(rt; *b, 170);
-        }
+        assert!(rt; n <= ROOM);
+        let mut out = [170u8; ROOM];
+        assert_eq!(rt; refused(write_frame(&m, &mut out[..n]))?, 4);
+        assert!(rt; out == [170u8; ROOM]);
+    }
+    Ok(())
+}
+
+// Every case is written and read back, and refused at any other length.
+fn all_written<V: Value + PartialEq>(rt: &impl Abort, cases: &[Case]) -> Result<(), Fail> {
+    for c in cases {
+        good::<V>(rt, c)?;
+        lengths::<V>(rt, c)?;
+    }
+    Ok(())
+}
+
+// Every case with each of its bytes changed.
+fn all_damaged<V: Value>(rt: &impl Abort, cases: &[Case]) -> Result<(), Fail> {
+    for c in cases {
+        let mut buffer = [0u8; ROOM];
+        damaged::<V>(rt, c, &mut buffer)?;
+    }
+    Ok(())
+}
+
+fn all_bad<V: Value>(rt: &impl Abort, cases: &[Case]) -> Result<(), Fail> {
+    for c in cases {
+        bad::<V>(rt, c)?;
     }
     Ok(())
 }
 
 #[test]
 fn block_frames(rt: HostRuntime) -> Result<(), Fail> {
-    for c in &block_cases::GOOD {
-        good::<Block>(&rt, c)?;
-        lengths::<Block>(&rt, c)?;
-    }
-    Ok(())
+    all_written::<Block>(&rt, &block_cases::GOOD)
 }
 
 #[test]
 fn order_frames(rt: HostRuntime) -> Result<(), Fail> {
-    for c in &order_cases::GOOD {
-        good::<Order>(&rt, c)?;
-        lengths::<Order>(&rt, c)?;
-    }
-    Ok(())
+    all_written::<Order>(&rt, &order_cases::GOOD)
 }
 
 #[test]
 fn block_damage(rt: HostRuntime) -> Result<(), Fail> {
-    for c in &block_cases::GOOD {
-        let mut buffer = [0u8; 60];
-        damaged::<Block>(&rt, c, &mut buffer)?;
-    }
-    Ok(())
+    all_damaged::<Block>(&rt, &block_cases::GOOD)
 }
 
 #[test]
 fn order_damage(rt: HostRuntime) -> Result<(), Fail> {
-    for c in &order_cases::GOOD {
-        let mut buffer = [0u8; 60];
-        damaged::<Order>(&rt, c, &mut buffer)?;
-    }
-    Ok(())
+    all_damaged::<Order>(&rt, &order_cases::GOOD)
 }
 
 #[test]
 fn out_of_range(rt: HostRuntime) -> Result<(), Fail> {
-    for c in &block_cases::BAD {
-        bad::<Block>(&rt, c)?;
-    }
-    for c in &order_cases::BAD {
-        bad::<Order>(&rt, c)?;
-    }
-    Ok(())
+    all_bad::<Block>(&rt, &block_cases::BAD)?;
+    all_bad::<Order>(&rt, &order_cases::BAD)
 }
 
 // A short buffer is told before a field out of range.
@@ -196,10 +180,7 @@ fn short_before_range(rt: HostRuntime) -> Result<(), Fail> {
     for c in &order_cases::BAD {
         let m = message_of::<Order>(c)?;
         let mut out = [170u8; 25];
-        match write_frame(&m, &mut out) {
-            Ok(_) => return Err(Fail::new("written")),
-            Err(fault) => assert_eq!(rt; fault.number(), 4),
-        }
+        assert_eq!(rt; refused(write_frame(&m, &mut out))?, 4);
         assert!(rt; out == [170u8; 25]);
     }
     Ok(())
@@ -208,19 +189,12 @@ fn short_before_range(rt: HostRuntime) -> Result<(), Fail> {
 // The proof of pace 600 from 1 to 4 in view 3, byte for byte.
 #[test]
 fn pace_proof(rt: HostRuntime) -> Result<(), Fail> {
-    let Some(rate) = Rate::new(600) else {
-        return Err(Fail::new("no rate"));
-    };
+    let rate = Rate::new(600).ok_or_else(|| Fail::new("no rate"))?;
     let m = Message {
-        kind: 3,
-        from: 1,
-        to: 4,
         view: 3,
-        key: 0,
         value: Order::Pace(rate),
-        second_key: 0,
-        second_value: Order::Blank,
         previous: None,
+        ..Message::empty(Kind::Proof, 1, 4)
     };
     let mut out = [0u8; 26];
     assert_eq!(rt; write_frame(&m, &mut out)?, 26);
@@ -254,9 +228,7 @@ fn allowed_blocks(rt: HostRuntime) {
 fn allowed_orders(rt: HostRuntime) -> Result<(), Fail> {
     assert!(rt; Order::Hold.allowed() && Order::Resume.allowed() && !Order::Blank.allowed());
     assert!(rt; Rate::new(0).is_none() && Rate::new(601).is_none());
-    let Some(rate) = Rate::new(1) else {
-        return Err(Fail::new("no rate"));
-    };
+    let rate = Rate::new(1).ok_or_else(|| Fail::new("no rate"))?;
     assert!(rt; Order::Pace(rate).allowed());
     Ok(())
 }

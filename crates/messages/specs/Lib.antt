@@ -1,2 +1,3 @@
-pub mod Messages
 pub mod Meaning
+pub mod Messages
+pub mod Kinds

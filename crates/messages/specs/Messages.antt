@@ -15,6 +15,21 @@ pub record Msg : Type 0 where
   -- a previous key; None stands for -1
   pub previous : Option ℕ
 
+-- a message that uses no field but its head
+abbrev pub unused : ℕ → ℕ → ℕ → ℕ → Msg
+unused width kind from to =
+    record {
+      kind = kind;
+      from = from;
+      to = to;
+      view = 0;
+      key = 0;
+      value = replicate width 0;
+      second_key = 0;
+      second_value = replicate width 0;
+      previous = Some 0;
+    }
+
 -- the last view, and the largest number of parties
 abbrev pub last_view : ℕ
 last_view = 2000000000

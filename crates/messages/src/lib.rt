@@ -1,4 +1,5 @@
 #![tactic(auto)]
 
+pub mod kind;
 pub mod message;
 pub mod range;

@@ -1,9 +1,9 @@
 -- Numbers and their bytes, each law once over the width.
 use Rattle.std.proofs.Common.{◌≡◌, ℕ, zero, suc, ◌+◌, ◌*◌, ◌/◌, ◌%◌, ◌^◌, ◌<◌, ◌≤◌, List, [], ◌∷◌, ◌++◌, length, get_or, take, drop, sym, refl, ap, ◌∙◌, arith}
-use native.Mathlib.Nat.{div-div-eq-div-mul, pow-succ'}
+use native.Mathlib.Nat.{pow-succ'}
 use Rattle.std.specs.Int.Digits.{number_from_digits, AllBelowBase}
 use Rattle.std.proofs.lemmas.Int.Digits.{number_push}
-use Rattle.std.proofs.lemmas.List.{drop_more, drop-drop, take-append-drop, length-append, length-drop, take_more, take_all, length-take-le, nil_from_length}
+use Rattle.std.proofs.lemmas.List.{drop-drop, take-append-drop, length-append, length-drop, take_more, take_all, length-take-le, nil_from_length}
 use Rattle.std.proofs.ByRecursion.{All-get_or, All-take, All-drop}
 use Rattle.octets.specs.Bytes.{be}
 
@@ -39,38 +39,6 @@ pub be-part : (k at : ℕ) (bs : List ℕ) → at + k ≤ length bs → AllBelow
 be-part k at bs h u =
     let room : k ≤ length (drop at bs) = omega (arith, length-drop at bs) in
     be-number k (take k (drop at bs)) (length-take-le k (drop at bs) room) (All-take (λ b. b < 256) k (drop at bs) (All-drop (λ b. b < 256) at bs u))
-
--- the elements from a place on
-abbrev pub spelled : List ℕ → ℕ → ℕ → ℕ → List ℕ
-spelled xs at i zero = []
-spelled xs at i (suc k) = get_or xs (at + i) 0 ∷ spelled xs at (suc i) k
-
-pub part_spelled : (xs : List ℕ) (at i k : ℕ) → at + i + k ≤ length xs → take k (drop (at + i) xs) ≡ spelled xs at i k
-part_spelled xs at i zero h = refl
-part_spelled xs at i (suc k) h =
-    let here : at + i < length xs = omega arith in
-    let step : drop (at + i) xs ≡ get_or xs (at + i) 0 ∷ drop (at + suc i) xs = drop_more xs (at + i) 0 here ∙ ap (λ n. get_or xs (at + i) 0 ∷ drop n xs) (omega arith) in
-    ap (take (suc k)) step ∙ ap (λ w. get_or xs (at + i) 0 ∷ w) (part_spelled xs at (suc i) k (omega arith))
-
-pub part_at : (xs : List ℕ) (at k : ℕ) → at + suc k ≤ length xs → take (suc k) (drop at xs) ≡ get_or xs at 0 ∷ spelled xs at 1 k
-part_at xs at k h =
-    let here : at < length xs = omega arith in
-    ap (take (suc k)) (drop_more xs at 0 here) ∙ ap (λ w. get_or xs at 0 ∷ w) (part_spelled xs at 1 k (omega arith))
-
--- a number's bytes by one division each, as the library has them
-abbrev pub quotients : ℕ → ℕ → List ℕ
-quotients zero n = n % 256 ∷ []
-quotients (suc k) n = n / 256 ^ suc k % 256 ∷ quotients k n
-
-pub quotients_push : (k n : ℕ) → quotients k (n / 256) ++ (n % 256 ∷ []) ≡ quotients (suc k) n
-quotients_push zero n = refl
-quotients_push (suc k) n =
-    let e : n / 256 / 256 ^ suc k ≡ n / 256 ^ suc (suc k) = div-div-eq-div-mul n 256 (256 ^ suc k) ∙ ap (λ d. n / d) (sym (pow-succ' 256 (suc k))) in
-    ap (λ q. q % 256 ∷ (quotients k (n / 256) ++ (n % 256 ∷ []))) e ∙ ap (λ w. n / 256 ^ suc (suc k) % 256 ∷ w) (quotients_push k n)
-
-pub be_quotients : (k n : ℕ) → be (suc k) n ≡ quotients k n
-be_quotients zero n = refl
-be_quotients (suc k) n = ap (λ w. w ++ (n % 256 ∷ [])) (be_quotients k (n / 256)) ∙ quotients_push k n
 
 -- numbers with the same bytes are the same
 pub same_from_be : (k m n : ℕ) → m < 256 ^ k → n < 256 ^ k → be k m ≡ be k n → m ≡ n

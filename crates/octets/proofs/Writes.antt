@@ -1,12 +1,7 @@
 -- One list written over another, and one write after another.
 use Rattle.std.proofs.Common.{◌≡◌, ℕ, ◌+◌, ◌≤◌, List, ◌++◌, length, take, drop, sym, ap, ◌∙◌, arith}
-use borrow.Rule.Slice.PartMut.{put_mid}
 use Rattle.std.proofs.lemmas.List.{drop-drop, take_at, drop_at, append_assoc, length-append, length-take-le, length-drop}
 use Rattle.octets.specs.Bytes.{over}
-
--- a write to `out[at..at + k]`, as the code leaves it
-pub put_over : (xs ys zs : List ℕ) (at k : ℕ) → zs ≡ ys → k ≡ length ys → put_mid at k xs zs ≡ over xs at ys
-put_over xs ys zs at k e f = rw (e, f, drop-drop)
 
 pub over-over : (xs ys zs : List ℕ) (at n : ℕ) → length ys ≡ n → at + n ≤ length xs → over (over xs at ys) (at + n) zs ≡ over xs at (ys ++ zs)
 over-over xs ys zs at n e h =

@@ -12,56 +12,71 @@ pub fn put(out: &mut [u8], at: usize, bs: &[u8])
     out[at..end].copy_from_slice(bs);
 }
 
-// The number in two bytes at a place.
-pub fn u16_at(from: &[u8], at: usize) -> u16
-    requires { at + 2 ≤ length from.now }
-    ensures { result ≡ number_from_digits 256 (take 2 (drop at from.now)) }
-{
-    u16::from_be_bytes([from[at], from[at + 1]])
+// A number of `N` bytes.
+pub trait Number<const N: usize>: Copy {
+    // the number itself
+    ghost number: { Self → ℕ };
+
+    // The number that the bytes write.
+    fn from_bytes(bs: &[u8; N]) -> Self
+        ensures { number result ≡ number_from_digits 256 bs.now };
+
+    // The bytes of the number.
+    fn to_bytes(self) -> [u8; N]
+        ensures { result ≡ be N (number self) };
+
+    // values of the same number are the same
+    ghost one_value: { (m n : Self) → number m ≡ number n → m ≡ n };
 }
 
-// The number in four bytes at a place.
-pub fn u32_at(from: &[u8], at: usize) -> u32
-    requires { at + 4 ≤ length from.now }
-    ensures { result ≡ number_from_digits 256 (take 4 (drop at from.now)) }
-{
-    u32::from_be_bytes([from[at], from[at + 1], from[at + 2], from[at + 3]])
+impl Number<2> for u16 {
+    ghost number = { λ n. n };
+
+    ghost one_value = { λ m n e. e };
+
+    fn from_bytes(bs: &[u8; 2]) -> u16 {
+        u16::from_be_bytes(*bs)
+    }
+
+    fn to_bytes(self) -> [u8; 2] {
+        u16::to_be_bytes(self)
+    }
 }
 
-// The number in eight bytes at a place.
-pub fn u64_at(from: &[u8], at: usize) -> u64
-    requires { at + 8 ≤ length from.now }
-    ensures { result ≡ number_from_digits 256 (take 8 (drop at from.now)) }
-{
-    u64::from_be_bytes([
-        from[at],
-        from[at + 1],
-        from[at + 2],
-        from[at + 3],
-        from[at + 4],
-        from[at + 5],
-        from[at + 6],
-        from[at + 7],
-    ])
+impl Number<4> for u32 {
+    ghost number = { λ n. n };
+
+    ghost one_value = { λ m n e. e };
+
+    fn from_bytes(bs: &[u8; 4]) -> u32 {
+        u32::from_be_bytes(*bs)
+    }
+
+    fn to_bytes(self) -> [u8; 4] {
+        u32::to_be_bytes(self)
+    }
 }
 
-// A number as two bytes.
-pub fn u16_bytes(n: u16) -> [u8; 2]
-    ensures { result ≡ be 2 n }
-{
-    u16::to_be_bytes(n)
+impl Number<8> for u64 {
+    ghost number = { λ n. n };
+
+    ghost one_value = { λ m n e. e };
+
+    fn from_bytes(bs: &[u8; 8]) -> u64 {
+        u64::from_be_bytes(*bs)
+    }
+
+    fn to_bytes(self) -> [u8; 8] {
+        u64::to_be_bytes(self)
+    }
 }
 
-// A number as four bytes.
-pub fn u32_bytes(n: u32) -> [u8; 4]
-    ensures { result ≡ be 4 n }
+// The number in the `N` bytes at a place.
+pub fn number_at<T: Number<N>, const N: usize>(from: &[u8], at: usize) -> T
+    requires { at + N ≤ length from.now }
+    ensures { T.number result ≡ number_from_digits 256 (take N (drop at from.now)) }
 {
-    u32::to_be_bytes(n)
-}
-
-// A number as eight bytes.
-pub fn u64_bytes(n: u64) -> [u8; 8]
-    ensures { result ≡ be 8 n }
-{
-    u64::to_be_bytes(n)
+    let mut bs = [0; N];
+    bs.copy_from_slice(&from[at..at + N]);
+    T::from_bytes(&bs)
 }

@@ -4,6 +4,9 @@ ghost use Rattle.std.proofs.Math.Seq.{paste};
 ghost use Rattle.messages.specs.Meaning.{message};
 ghost use Rattle.wires.specs.Wire.{fixed_request};
 ghost use Rattle.wires.specs.Table.{entry, entries};
+ghost use Rattle.wires.proofs.Places.{length_front};
+ghost use Rattle.wires.proofs.Ranges.{entries-ranged};
+ghost use Rattle.std.proofs.Common.{arith};
 
 use messages::message::Message;
 use messages::range::in_range;
@@ -13,6 +16,7 @@ use wires::fixed::fixed_request;
 use wires::gap::close_gap;
 use wires::wire::Wire;
 
+// Beside the wire of frames: one over a trait of places would hide entries and frames behind two more ghost members.
 // The first `count` entries of the table wait. An entry out of range, which no call leaves,
 // means one fixed request.
 #[derive(Drop)]
@@ -48,33 +52,25 @@ fn put_entry<V: Value>(table: &mut [Message<V>], i: usize, m: &Message<V>)
     table[i] = *m;
 }
 
-// Answers one of the first `count` entries, and moves the later ones of these up over it.
-fn take_entry<V: Value>(table: &mut [Message<V>], i: usize, count: usize) -> Message<V>
-    requires { (i < count) × (count ≤ length table.old) }
-    ensures value { message V.bytes result ≡ slice_index_or (map (entry V.valid V.width V.bytes) table.old) i (fixed_request V.width) }
-    ensures after { table.new ≡ paste table.old i (drop (i + 1) table.old) (count - (i + 1)) }
-{
-    let m = entry_at(table, i);
-    close_gap(table, i, 1, count);
-    m
-}
-
 impl<'a, V: Value> Wire<V> for TableWire<'a, V> {
     ghost waiting = { λ t. entries V.Value.valid V.Value.width V.Value.bytes t.count t.table.now };
 
     ghost capacity = { λ t. length t.table.now };
+
+    ghost held = { λ t. Prim.omega (arith, length_front (entry V.Value.valid V.Value.width V.Value.bytes) t.table.now t.count) };
+
+    ghost fair = { λ t. entries-ranged V.Value.valid V.Value.width V.Value.blank_valid V.Value.bytes t.count t.table.now };
 
     fn count(&self) -> usize {
         self.count.min(self.table.len())
     }
 
     fn room(&self) -> usize {
-        let most = self.table.len();
-        most - self.count.min(most)
+        self.table.len() - self.count()
     }
 
     fn look(&self, i: usize) -> Result<Message<V>, WireFault> {
-        if i >= self.count || i >= self.table.len() {
+        if i >= self.count() {
             return Err(WireFault::NoMessage);
         }
         Ok(entry_at(self.table, i))
@@ -94,11 +90,9 @@ impl<'a, V: Value> Wire<V> for TableWire<'a, V> {
     }
 
     fn take_out(&mut self, i: usize) -> Result<Message<V>, WireFault> {
-        let count = self.count.min(self.table.len());
-        if i >= count {
-            return Err(WireFault::NoMessage);
-        }
-        let m = take_entry(self.table, i, count);
+        let m = self.look(i)?;
+        let count = self.count();
+        close_gap(self.table, i, 1, count);
         self.count = count - 1;
         Ok(m)
     }

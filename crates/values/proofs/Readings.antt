@@ -1,11 +1,9 @@
 -- Blocks and orders from their bytes.
-use Rattle.std.proofs.Common.{◌≡◌, ℕ, ◌^◌, ◌<◌, false, List, ◌∷◌, ◌++◌, length, get_or, take, drop, sym, ap, ◌∙◌, arith}
+use Rattle.std.proofs.Common.{◌≡◌, ℕ, ◌<◌, List, ◌∷◌, ◌++◌, length, get_or, take, drop, sym, ap, ◌∙◌, arith}
 use Rattle.std.specs.Int.Digits.{number_from_digits, AllBelowBase}
 use Rattle.std.proofs.lemmas.List.{take_all, drop_more, length-drop}
 use Rattle.octets.specs.Bytes.{be}
-use Rattle.values.specs.Same.{equal}
-use Rattle.octets.proofs.Numbers.{be-part, part_rest, same_from_be}
-use Rattle.values.proofs.Same.{equal_from_not}
+use Rattle.octets.proofs.Numbers.{be-part, part_rest}
 
 -- the bytes of the three numbers that stand in 14 bytes
 pub block_back : (bs : List ℕ) (first count party : ℕ) → length bs ≡ 14 → AllBelowBase 256 bs → first ≡ number_from_digits 256 (take 8 (drop 0 bs)) → count ≡ number_from_digits 256 (take 4 (drop 8 bs)) → party ≡ number_from_digits 256 (take 2 (drop 12 bs)) → be 8 first ++ (be 4 count ++ be 2 party) ≡ bs
@@ -22,8 +20,3 @@ order_back bs n l u e =
     let some : 0 < length bs = omega arith in
     let rest : be 2 n ≡ drop 1 bs = ap (be 2) e ∙ (be-part 2 1 bs (omega arith) u ∙ take_all 2 (drop 1 bs) (omega (arith, length-drop 1 bs))) in
     ap (λ w. get_or bs 0 0 ∷ w) rest ∙ sym (drop_more bs 0 0 some)
-
--- blocks that differ in the first number differ in their bytes
-pub blocks_differ : (a b : ℕ) (xs ys : List ℕ) → a < 256 ^ 8 → b < 256 ^ 8 → (a ≡ b → ⊥) → equal (be 8 a ++ xs) (be 8 b ++ ys) ≡ false
-blocks_differ a b xs ys ha hb n =
-    equal_from_not (be 8 a ++ xs) (be 8 b ++ ys) (λ e. n (same_from_be 8 a b ha hb (ap (take 8) e)))

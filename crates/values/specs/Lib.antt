@@ -3,3 +3,4 @@ pub mod Limits
 pub mod Blocks
 pub mod Paces
 pub mod Orders
+pub mod Parties

@@ -5,7 +5,8 @@ ghost use Rattle.std.proofs.Common.{rules};
 
 use crate::limits::MOST_PARTIES;
 use crate::value::Value;
-use octets::bytes::{put, u16_at, u16_bytes, u32_at, u32_bytes, u64_at, u64_bytes};
+use octets::bytes::{Number, number_at, put};
+use std::fmt;
 
 // The most numbers that one block may have.
 pub const MOST_NUMBERS: u32 = 1_000_000;
@@ -15,18 +16,6 @@ pub struct Block {
     pub first: u64,
     pub count: u32,
     pub party: u16,
-}
-
-// The bytes of a block.
-fn encode(b: &Block) -> [u8; 14]
-    ensures { result ≡ block_bytes b.now }
-{
-    let a = u64_bytes(b.first);
-    let n = u32_bytes(b.count);
-    let p = u16_bytes(b.party);
-    [
-        a[0], a[1], a[2], a[3], a[4], a[5], a[6], a[7], n[0], n[1], n[2], n[3], p[0], p[1],
-    ]
 }
 
 impl Value for Block {
@@ -63,13 +52,8 @@ impl Value for Block {
     }
 
     fn same(&self, other: &Block) -> bool {
-        if self.first != other.first {
-            return false;
-        }
-        if self.count != other.count {
-            return false;
-        }
-        self.party == other.party
+        // not `self == other`: its proof did not close, as only a field that is read has its range there
+        self.first == other.first && self.count == other.count && self.party == other.party
     }
 
     // The last number, first + count - 1, must be below 2^64.
@@ -82,15 +66,26 @@ impl Value for Block {
     }
 
     fn write(&self, out: &mut [u8], at: usize) {
-        let bs = encode(self);
-        put(out, at, &bs);
+        put(out, at, &self.first.to_bytes());
+        put(out, at + 8, &self.count.to_bytes());
+        put(out, at + 12, &self.party.to_bytes());
     }
 
     fn read(from: &[u8]) -> Option<Block> {
         Some(Block {
-            first: u64_at(from, 0),
-            count: u32_at(from, 8),
-            party: u16_at(from, 12),
+            first: number_at(from, 0),
+            count: number_at(from, 8),
+            party: number_at(from, 12),
         })
+    }
+}
+
+impl fmt::Display for Block {
+    fn fmt<W: fmt::Write>(&self, f: &mut fmt::Formatter<W>) -> fmt::Result {
+        write!(
+            f,
+            "block of {} from {} for press {}",
+            self.count, self.first, self.party
+        )
     }
 }

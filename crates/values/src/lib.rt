@@ -3,5 +3,6 @@
 pub mod block;
 pub mod limits;
 pub mod order;
+pub mod parties;
 pub mod rate;
 pub mod value;

@@ -1,11 +1,13 @@
 // An order to a press: hold, resume, or print at a pace. The blank is no order to give.
-ghost use Rattle.std.specs.Prelude.{◌≡◌};
+ghost use Rattle.std.specs.Prelude.{◌≡◌, ◌∷◌};
+ghost use Rattle.octets.specs.Bytes.{be};
 ghost use Rattle.values.specs.Orders.{order_bytes, order_valid, order_allows};
 ghost use Rattle.std.proofs.Common.{rules};
 
 use crate::rate::Rate;
 use crate::value::Value;
-use octets::bytes::{put, u16_at, u16_bytes};
+use octets::bytes::{Number, number_at, put};
+use std::fmt;
 
 #[derive(Clone, Copy, PartialEq, Eq, Debug)]
 pub enum Order {
@@ -15,17 +17,16 @@ pub enum Order {
     Pace(Rate),
 }
 
-// The bytes of an order.
-fn encode(o: &Order) -> [u8; 3]
-    ensures { result ≡ order_bytes o.now }
-{
-    match o {
-        Order::Blank => [0, 0, 0],
-        Order::Hold => [1, 0, 0],
-        Order::Resume => [2, 0, 0],
-        Order::Pace(rate) => {
-            let n = u16_bytes(rate.number());
-            [3, n[0], n[1]]
+impl Order {
+    // What to do, as the first byte tells it, and the pace, 0 where it is none.
+    fn parts(&self) -> (u8, u16)
+        ensures { order_bytes self.now ≡ result.0 ∷ be 2 result.1 }
+    {
+        match self {
+            Order::Blank => (0, 0),
+            Order::Hold => (1, 0),
+            Order::Resume => (2, 0),
+            Order::Pace(rate) => (3, rate.number()),
         }
     }
 }
@@ -60,38 +61,38 @@ impl Value for Order {
     }
 
     fn same(&self, other: &Order) -> bool {
-        match (self, other) {
-            (Order::Blank, Order::Blank) => true,
-            (Order::Hold, Order::Hold) => true,
-            (Order::Resume, Order::Resume) => true,
-            (Order::Pace(a), Order::Pace(b)) => a.number() == b.number(),
-            _ => false,
-        }
+        self == other
     }
 
     fn allowed(&self) -> bool {
-        match self {
-            Order::Blank => false,
-            Order::Hold | Order::Resume | Order::Pace(_) => true,
-        }
+        !matches!(self, Order::Blank)
     }
 
     fn write(&self, out: &mut [u8], at: usize) {
-        let bs = encode(self);
-        put(out, at, &bs);
+        let (what, number) = self.parts();
+        put(out, at, &[what]);
+        put(out, at + 1, &number.to_bytes());
     }
 
     fn read(from: &[u8]) -> Option<Order> {
-        let number = u16_at(from, 1);
-        match from[0] {
-            0 if number == 0 => Some(Order::Blank),
-            1 if number == 0 => Some(Order::Hold),
-            2 if number == 0 => Some(Order::Resume),
-            3 => match Rate::new(number) {
-                Some(rate) => Some(Order::Pace(rate)),
-                None => None,
-            },
+        let number = number_at(from, 1);
+        match (from[0], number) {
+            (0, 0) => Some(Order::Blank),
+            (1, 0) => Some(Order::Hold),
+            (2, 0) => Some(Order::Resume),
+            (3, _) => Rate::new(number).map(Order::Pace),
             _ => None,
+        }
+    }
+}
+
+impl fmt::Display for Order {
+    fn fmt<W: fmt::Write>(&self, f: &mut fmt::Formatter<W>) -> fmt::Result {
+        match self {
+            Order::Blank => f.write_str("no order"),
+            Order::Hold => f.write_str("hold"),
+            Order::Resume => f.write_str("resume"),
+            Order::Pace(rate) => write!(f, "pace {}", rate.number()),
         }
     }
 }

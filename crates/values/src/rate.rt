@@ -1,4 +1,4 @@
-// A pace of printing, 1 to 600.
+// A pace of printing, 1 to 600; the figures are those of the definitions, which the reader of sheets cites too.
 ghost use Rattle.std.specs.Prelude.{◌≡◌, ◌≤◌, true, false, MatchOption};
 ghost use Rattle.values.specs.Paces.{pace_fits};
 

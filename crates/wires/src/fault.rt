@@ -2,13 +2,18 @@
 ghost use Rattle.std.specs.Prelude.{◌≡◌};
 ghost use Rattle.wires.specs.Wire.{fault_number};
 
-#[derive(Clone, Copy, Debug)]
+use thiserror::Error;
+
+#[derive(Clone, Copy, PartialEq, Eq, Debug, Error)]
 pub enum WireFault {
     // a field is out of range
+    #[error("a field is out of range")]
     Range,
     // no message waits at that place
+    #[error("no message waits at that place")]
     NoMessage,
     // no room is left
+    #[error("no room is left")]
     NoRoom,
 }
 

@@ -3,6 +3,7 @@ ghost use Rattle.std.specs.Prelude.{◌≡◌};
 ghost use Rattle.messages.specs.Meaning.{message};
 ghost use Rattle.wires.specs.Wire.{fixed_request};
 
+use messages::kind::Kind;
 use messages::message::Message;
 use values::value::Value;
 
@@ -11,14 +12,7 @@ pub fn fixed_request<V: Value>() -> Message<V>
     ensures { message V.bytes result ≡ fixed_request V.width }
 {
     Message {
-        kind: 1,
-        from: 1,
-        to: 1,
         view: 1,
-        key: 0,
-        value: V::blank(),
-        second_key: 0,
-        second_value: V::blank(),
-        previous: Some(0),
+        ..Message::empty(Kind::Request, 1, 1)
     }
 }

@@ -46,4 +46,10 @@ pub trait Wire<V: Value> {
         ensures value { answer (message V.Value.bytes) result ≡ looked (waiting self.old) i }
         ensures ranged { IfOk result (λ m. in_range V.Value.valid V.Value.width (message V.Value.bytes m) ≡ true) }
         ensures after { waiting self.new ≡ taken (waiting self.old) i };
+
+    // no more messages wait than the wire holds
+    ghost held: { (w : Self) → length (waiting w) ≤ capacity w };
+
+    // each waiting message is in range
+    ghost fair: { (w : Self) → AllByRecursion (λ m. in_range V.Value.valid V.Value.width m ≡ true) (waiting w) };
 }

@@ -1,5 +1,4 @@
-use Rattle.std.proofs.Common.{◌+◌, refl, ap, ◌∙◌, arith}
-use Rattle.octets.specs.Bytes.{over}
+use Rattle.std.proofs.Common.{◌+◌, refl, arith}
 use Rattle.messages.specs.Meaning.{message}
 use Rattle.frames.specs.Frames.{head, frame}
 use Rattle.frames.proofs.Calls.{three_writes}
@@ -11,5 +10,4 @@ returns g c =
     let v = g.V.Value in
     let m = message v.bytes c.args.m.now in
     let size = g.met.V.Value.sized c.args.m.now.value in
-    let front = c.put.ensures ∙ ap (over c.args.out.now c.args.at) c.header-head.ensures in
-    three_writes c.args.out.now c.put.new.out c.write.new.out c.write-2.new.out (head m) m.value m.second_value c.args.at 20 (20 + c.width_of-second.result) refl (omega arith) (omega arith) (omega arith) front (cc) (cc)
+    three_writes c.args.out.now c.write_head.new.out c.write.new.out c.write-2.new.out (head m) m.value m.second_value c.args.at 20 (20 + c.width_of-second.result) refl (omega arith) (omega arith) (omega arith) c.write_head.ensures (cc) (cc)

@@ -1,5 +1,0 @@
-use Rattle.octets.proofs.Numbers.{be_quotients}
-use Rattle.octets.proofs.bytes.u64_bytes.Goals as goal
-
-pub returns : goal.returns
-returns c = let e = be_quotients 7 c.args.n in cc
