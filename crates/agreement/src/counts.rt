@@ -5,8 +5,6 @@ ghost use Rattle.agreement.specs.Counts.{CountsHold};
 // parties decide at most one value and it is allowed; nobody honest is left undecided once the
 // honest messages are through and the undecided share a view with an honest primary; and of one
 // kind and view an honest party posts at most one message to a party.
-pub fn counts_hold() -> u8
+pub fn counts_hold()
     ensures { CountsHold }
-{
-    0
-}
+{}

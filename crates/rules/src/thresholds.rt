@@ -3,6 +3,7 @@ ghost use Rattle.std.specs.Prelude.{◌≡◌, ◌≤◌};
 ghost use Rattle.rules.specs.Thresholds.{quorum_size, voucher_size, sizes_fit, primary as leader};
 ghost use Rattle.rules.specs.Party.{Setting};
 
+// The figures stand as the definitions have them.
 // Whether a ring may have n parties of which f lie. Every pair of numbers has an answer.
 pub fn sizes_fit(n: u64, f: u64) -> bool
     ensures { result ≡ sizes_fit n f }
