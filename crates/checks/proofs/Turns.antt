@@ -1,6 +1,5 @@
 -- One turn of a loop over the rows: one sender more.
-use Rattle.std.proofs.Common.{◌≡◌, ℕ, suc, ◌+◌, ◌<◌, max, Bool, true, false, cond, ◌&&◌, ◌||◌, leb, List, length, get_or, is_some, Some, None, Option, sym, refl, ap, ◌∙◌, add-one}
-use Rattle.std.specs.Option.{option_map}
+use Rattle.std.proofs.Common.{◌≡◌, ℕ, suc, ◌+◌, ◌<◌, max, Bool, cond, leb, List, length, get_or, Option, sym, ap, ◌∙◌, add-one}
 use Rattle.rules.specs.Counting.{count, largest}
 use Rattle.rules.specs.Party as model
 use Rattle.rules.specs.Tests.{accepts, best, higher}
@@ -30,27 +29,8 @@ module _ {V : Type 0} (bytes : V → List ℕ) (rs : List (Row V)) (i : ℕ) (ro
       k ∙ (ap (λ c. cond c (higher g top (row_of bytes row).suggest) top) e ∙ (ap (λ x. cond (accepts g p (row_of bytes row).suggest) (higher g x (row_of bytes row).suggest) x) f ∙
       (sym (ap (λ r. cond (accepts g p r.suggest) (higher g (best g p i) r.suggest) (best g p i)) here) ∙ sym (ap (best g p) (add-one i)))))
 
--- a value that is allowed, with a key that is not 0 and below the view: the rest decides
-pub last_decides : (a b c d : Bool) → a ≡ true → b ≡ false → c ≡ true → (a && (b || (c && d))) ≡ d
-last_decides a b c d ea eb ec = rw (ea, eb, ec)
-
 -- the same size and the same number of senders, under other names
 pub largest_by : (a : ℕ → ℕ) (s s' n n' r : ℕ) → r ≡ largest a (λ x. leb s (count (λ j. leb x (a j)) n)) n → s ≡ s' → n ≡ n' →
     r ≡ largest a (λ x. leb s' (count (λ j. leb x (a j)) n')) n'
 largest_by a s s' n n' r e p q =
     e ∙ (ap (λ k. largest a (λ x. leb k (count (λ j. leb x (a j)) n)) n) p ∙ ap (λ k. largest a (λ x. leb s' (count (λ j. leb x (a j)) k)) k) q)
-
--- an entry that is not there, by its meaning
-pub none_there : {A B : Type 0} (f : A → B) (o : Option A) → is_some o ≡ false → model.none (option_map f o) ≡ true
-none_there f None e = refl
-none_there f (Some x) e = sym e
-
-pub some_there : {A B : Type 0} (f : A → B) (o : Option A) → is_some o ≡ true → model.none (option_map f o) ≡ false
-some_there f None e = sym e
-some_there f (Some x) e = refl
-
-pub and_then_right : (a b r : Bool) → a ≡ true → r ≡ b → r ≡ (a && b)
-and_then_right a b r e h = h ∙ ap (λ x. x && b) (sym e)
-
-pub and_not_left : (a b r : Bool) → a ≡ false → r ≡ false → r ≡ (a && b)
-and_not_left a b r e h = h ∙ ap (λ x. x && b) (sym e)

@@ -1,33 +1,22 @@
 // Claims on keys: a proof opens a lock, a suggest bears out a key.
 ghost use Rattle.std.specs.Prelude.{◌≡◌};
-ghost use Rattle.rules.specs.Tests.{below, up_to, opens_lock, bears_key};
+ghost use Rattle.rules.specs.Tests.{up_to, opens_lock, bears_key};
 ghost use Rattle.rows.specs.Meaning.{keyed_of};
 
-use rows::keys::Keyed;
+use rows::keys::{Keyed, below_key};
 use rows::row::Row;
 use tally::tally::Claim;
 use values::value::Value;
-
-// Whether a previous key is below a key; none always is.
-fn below_key(previous: Option<u32>, key: u32) -> bool
-    ensures { result ≡ below previous key }
-{
-    match previous {
-        Some(p) => p < key,
-        None => true,
-    }
-}
 
 // Whether a key is at most a previous one; none is below every key.
 fn at_most(key: u32, previous: Option<u32>) -> bool
     ensures { result ≡ up_to key previous }
 {
-    match previous {
-        Some(p) => key <= p,
-        None => false,
-    }
+    previous.is_some_and(|p| key <= p)
 }
 
+// Each a let-else, since four tests in a closure would be no plainer.
+// Alike but for the last test and the part of the row; one over both would take four arguments and be no plainer.
 // The sender's proof opens a lock in this view.
 #[derive(Clone, Copy)]
 pub struct Opens<V> {
@@ -42,11 +31,10 @@ impl<V: Value> Claim<V> for Opens<V> {
         let Some(p) = &row.proof else {
             return false;
         };
-        if !below_key(p.previous, p.key1.at) || p.key1.at >= self.view {
-            return false;
-        }
-        at_most(self.lock.at, p.previous)
-            || self.lock.at <= p.key1.at && !p.key1.value.same(&self.lock.value)
+        below_key(p.previous, p.key1.at)
+            && p.key1.at < self.view
+            && (at_most(self.lock.at, p.previous)
+                || self.lock.at <= p.key1.at && !p.key1.value.same(&self.lock.value))
     }
 }
 
@@ -64,10 +52,9 @@ impl<V: Value> Claim<V> for BearsOut<V> {
         let Some(s) = &row.suggest else {
             return false;
         };
-        if !below_key(s.previous, s.key2.at) || s.key2.at >= self.view {
-            return false;
-        }
-        at_most(self.key.at, s.previous)
-            || self.key.at <= s.key2.at && s.key2.value.same(&self.key.value)
+        below_key(s.previous, s.key2.at)
+            && s.key2.at < self.view
+            && (at_most(self.key.at, s.previous)
+                || self.key.at <= s.key2.at && s.key2.value.same(&self.key.value))
     }
 }

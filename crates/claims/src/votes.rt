@@ -2,8 +2,10 @@
 ghost use Rattle.std.specs.Prelude.{◌≡◌, nat_le};
 ghost use Rattle.std.specs.Option.{option_map};
 ghost use Rattle.rules.specs.Tests.{is};
+ghost use Rattle.rows.specs.Votes.{vote_number};
 
 use rows::row::Row;
+use rows::vote::Vote;
 use tally::tally::Claim;
 use values::value::Value;
 
@@ -11,31 +13,28 @@ use values::value::Value;
 fn holds<V: Value>(entry: &Option<V>, value: &V) -> bool
     ensures { result ≡ is (V.bytes value.now) (option_map V.bytes entry.now) }
 {
-    match entry {
-        Some(v) => v.same(value),
-        None => false,
-    }
+    entry.as_ref().is_some_and(|v| v.same(value))
 }
 
-// The sender has voted for the value by a kind: 5 echo, 6 key1, 7 key2, 8 key3, 9 lock.
+// The sender has voted for the value.
 #[derive(Clone, Copy)]
 pub struct Votes<V> {
-    pub kind: u8,
+    pub vote: Vote,
     pub value: V,
 }
 
 impl<V: Value> Claim<V> for Votes<V> {
-    ghost backed = { λ c row. is (V.Value.bytes c.value) (row.vote c.kind) };
+    ghost backed = { λ c row. is (V.Value.bytes c.value) (row.vote (vote_number c.vote)) };
 
     fn backs(&self, row: &Row<V>) -> bool {
-        match self.kind {
-            5 => holds(&row.echo, &self.value),
-            6 => holds(&row.key1, &self.value),
-            7 => holds(&row.key2, &self.value),
-            8 => holds(&row.key3, &self.value),
-            9 => holds(&row.lock, &self.value),
-            _ => false,
-        }
+        let entry = match self.vote {
+            Vote::Echo => &row.echo,
+            Vote::Key1 => &row.key1,
+            Vote::Key2 => &row.key2,
+            Vote::Key3 => &row.key3,
+            Vote::Lock => &row.lock,
+        };
+        holds(entry, &self.value)
     }
 }
 
@@ -54,7 +53,7 @@ impl<V: Value> Claim<V> for Told<V> {
 }
 
 // The sender has given up this view or a later one.
-#[derive(Clone, Copy)]
+#[derive(Clone, Copy, PartialEq, Eq, Debug)]
 pub struct GaveUp {
     pub view: u32,
 }

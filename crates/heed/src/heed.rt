@@ -1,16 +1,18 @@
 // Which messages a party takes in.
-ghost use Rattle.std.specs.Prelude.{◌≡◌, ◌≤◌, length};
+// A message at hand carries the number of its kind, and the rules give kinds by ranges: so the tests match on numbers.
+ghost use Rattle.std.specs.Prelude.{◌≡◌, ◌≤◌};
 ghost use Rattle.messages.specs.Meaning.{message};
 ghost use Rattle.rules.specs.Tests.{is_nothing, heeded};
 ghost use Rattle.rules.specs.Party.{Setting, none};
-ghost use Rattle.rows.specs.Meaning.{setting_of, row_of, record_of, party_of, proposal_of};
+ghost use Rattle.rows.specs.Meaning.{setting_of, row_of, record_of, proposal_of};
+ghost use Rattle.rows.specs.Parties.{party_in};
 ghost use Rattle.heed.specs.Heed.{first_by, led_by, taken_in};
 
 use messages::message::Message;
 use notes::entries::row_from;
+use rows::party::Party;
 use rows::record::{Proposal, Record};
 use rows::row::Row;
-use rows::seat::Seat;
 use tally::thresholds::primary_of;
 use values::value::Value;
 
@@ -25,10 +27,7 @@ fn is_open<V: Value>(own: &Record<V>) -> bool
 fn no_proposal<V: Value>(own: &Record<V>) -> bool
     ensures { (g : Setting) → result ≡ is_nothing g (proposal_of V.bytes own.now.proposal) }
 {
-    match &own.proposal {
-        Proposal::Nothing => true,
-        _ => false,
-    }
+    matches!(&own.proposal, Proposal::Nothing)
 }
 
 // Whether the sender has not voted by this kind in this view: 5 echo, 6 key1, 7 key2, 8 key3, 9 lock.
@@ -86,19 +85,18 @@ fn takes_in(kind: u8, vacant: bool, asked: bool, here: bool, led: bool, first: b
 }
 
 // Whether a party takes a message in.
-pub fn heeds<V: Value>(seat: Seat, own: &Record<V>, rows: &[Row<V>], m: &Message<V>) -> bool
-    requires { (1 ≤ m.now.from) × (m.now.from ≤ length rows.now) }
-    ensures { result ≡ heeded (setting_of V.width V.allows seat) seat.me (party_of V.bytes own.now rows.now) (message V.bytes m.now) }
+pub fn heeds<V: Value>(party: &Party<V>, m: &Message<V>) -> bool
+    requires { (1 ≤ m.now.from) × (m.now.from ≤ party.now.seat.n) }
+    ensures { result ≡ heeded (setting_of V.width V.allows party.now.seat) party.now.seat.me (party_in V.bytes party.now) (message V.bytes m.now) }
 {
-    let row = row_from(rows, m.from);
-    let led = is_led(seat.me, primary_of::<V>(seat, own.view), m.from, m.kind);
-    let first = is_first(own, &row, m.kind);
+    let row = row_from(party.rows, m.from);
+    let primary = primary_of::<V>(party.seat, party.own.view);
     takes_in(
         m.kind,
-        is_open(own),
+        is_open(party.own),
         row.request < m.view,
-        m.view == own.view,
-        led,
-        first,
+        m.view == party.own.view,
+        is_led(party.seat.me, primary, m.from, m.kind),
+        is_first(party.own, &row, m.kind),
     )
 }

@@ -1,2 +1,1 @@
-mod Emptied
 mod Tables

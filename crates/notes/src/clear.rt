@@ -10,18 +10,13 @@ use values::value::Value;
 pub fn clear_rows<V: Value>(rows: &mut [Row<V>])
     ensures { rows_of V.bytes rows.new ≡ (λ j. cleared (rows_of V.bytes rows.old j)) }
 {
+    let empty = Row::empty();
     for row in rows.iter_mut() {
         *row = Row {
             request: row.request,
             abort: row.abort,
             done: row.done,
-            suggest: None,
-            proof: None,
-            echo: None,
-            key1: None,
-            key2: None,
-            key3: None,
-            lock: None,
+            ..empty
         };
     }
 }

@@ -1,12 +1,15 @@
 // What a message leaves in its sender's row.
+// A row is read and written whole: a field written in place owes the bounds of a generic row in each function.
 ghost use Rattle.std.specs.Prelude.{◌≡◌, ◌≤◌, length};
 ghost use Rattle.rules.specs.Counting.{upd};
 ghost use Rattle.rules.specs.Party.{with_request, with_abort, with_told, with_suggest, with_proof, with_vote};
 ghost use Rattle.rows.specs.Meaning.{row_of, rows_of, suggest_of, proof_of};
+ghost use Rattle.rows.specs.Votes.{vote_number};
 
 use crate::entries::{put_row, row_from};
 use rows::keys::{Proof, Suggest};
 use rows::row::Row;
+use rows::vote::Vote;
 use values::value::Value;
 
 // The sender's highest request.
@@ -82,40 +85,26 @@ pub fn note_proof<V: Value>(rows: &mut [Row<V>], from: u8, proof: &Proof<V>)
     );
 }
 
-// The row with a vote: 5 echo, 6 key1, 7 key2, 8 key3, 9 lock.
-fn voted_row<V: Value>(row: Row<V>, kind: u8, value: &V) -> Row<V>
-    requires { (5 ≤ kind) × (kind ≤ 9) }
-    ensures { row_of V.bytes result ≡ with_vote (row_of V.bytes row) kind (V.bytes value.now) }
+// Written by a match here, read by one in the claims and by number where a message is heeded: one use each.
+// The row with a vote.
+fn voted_row<V: Value>(row: Row<V>, vote: Vote, value: &V) -> Row<V>
+    ensures { row_of V.bytes result ≡ with_vote (row_of V.bytes row) (vote_number vote) (V.bytes value.now) }
 {
-    match kind {
-        5 => Row {
-            echo: Some(*value),
-            ..row
-        },
-        6 => Row {
-            key1: Some(*value),
-            ..row
-        },
-        7 => Row {
-            key2: Some(*value),
-            ..row
-        },
-        8 => Row {
-            key3: Some(*value),
-            ..row
-        },
-        _ => Row {
-            lock: Some(*value),
-            ..row
-        },
+    let voted = Some(*value);
+    match vote {
+        Vote::Echo => Row { echo: voted, ..row },
+        Vote::Key1 => Row { key1: voted, ..row },
+        Vote::Key2 => Row { key2: voted, ..row },
+        Vote::Key3 => Row { key3: voted, ..row },
+        Vote::Lock => Row { lock: voted, ..row },
     }
 }
 
-// The sender's vote of this kind in this view.
-pub fn note_vote<V: Value>(rows: &mut [Row<V>], from: u8, kind: u8, value: &V)
-    requires { (1 ≤ from) × (from ≤ length rows.old) × (5 ≤ kind) × (kind ≤ 9) }
-    ensures { rows_of V.bytes rows.new ≡ upd (rows_of V.bytes rows.old) from (with_vote (rows_of V.bytes rows.old from) kind (V.bytes value.now)) }
+// The sender's vote in this view.
+pub fn note_vote<V: Value>(rows: &mut [Row<V>], from: u8, vote: Vote, value: &V)
+    requires { (1 ≤ from) × (from ≤ length rows.old) }
+    ensures { rows_of V.bytes rows.new ≡ upd (rows_of V.bytes rows.old) from (with_vote (rows_of V.bytes rows.old from) (vote_number vote) (V.bytes value.now)) }
 {
     let row = row_from(rows, from);
-    put_row(rows, from, &voted_row(row, kind, value));
+    put_row(rows, from, &voted_row(row, vote, value));
 }

@@ -1,5 +1,5 @@
 -- Which way a rule goes, by a test.
-use Rattle.std.proofs.Common.{◌≡◌, ℕ, Bool, true, false, cond, ◌&&◌, sym, ap, ◌∙◌}
+use Rattle.std.proofs.Common.{◌≡◌, ℕ, Bool, true, false, cond, sym, ap, ◌∙◌}
 use Rattle.rules.specs.Party.{Record, Row, Party}
 
 -- a test that is passed, or not, decides
@@ -8,9 +8,6 @@ passed b x y h = ap (λ c. cond c x y) (sym h)
 
 pub failed : {X : Type 0} (b : Bool) (x y : X) → false ≡ b → cond b x y ≡ y
 failed b x y h = ap (λ c. cond c x y) (sym h)
-
-pub and_last : (a b r : Bool) → true ≡ a → r ≡ b → r ≡ (a && b)
-and_last a b r e h = h ∙ ap (λ x. x && b) e
 
 -- a party by its two parts
 pub two_parts : (r r' : Record) (t t' : ℕ → Row) → r ≡ r' → t ≡ t' → ◌≡◌ {A = Party} (record { rec = r; rows = t }) (record { rec = r'; rows = t' })

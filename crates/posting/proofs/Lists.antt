@@ -1,5 +1,5 @@
--- Lists of posts: parts that fit, one more, and their lengths.
-use Rattle.std.proofs.Common.{◌≡◌, ℕ, zero, suc, ◌+◌, ◌-◌, ◌^◌, ◌<◌, Bool, true, false, cond, ◌&&◌, ltb, List, [], ◌∷◌, ◌++◌, length, sym, refl, ap, ◌∙◌, subst, append_assoc, add-one, arith, lt-ltb}
+-- Lists of posts: parts that fit, and one more.
+use Rattle.std.proofs.Common.{◌≡◌, ℕ, zero, suc, ◌+◌, ◌-◌, ◌<◌, Bool, true, false, cond, ◌&&◌, ltb, List, [], ◌∷◌, ◌++◌, length, sym, refl, ap, ◌∙◌, subst, append_assoc, add-one, arith, lt-ltb}
 use Rattle.std.specs.List.{AllByRecursion as All}
 use Rattle.std.proofs.lemmas.List.{length-append, append-nil}
 use Rattle.messages.specs.Messages.{Msg, in_range}
@@ -26,10 +26,6 @@ module _ (valid : List ℕ → Bool) (width : ℕ) where
   takes_rest capacity capacity' old mid xs ys t e k =
       record { ranged = all_right _ xs ys t.ranged; room = omega (arith, t.room, length-append xs ys, ap length e ∙ length-append old xs, k); few = omega (arith, t.few, length-append xs ys) }
 
-  -- nothing more is always taken, after what is taken
-  pub takes_none : (capacity : ℕ) (old xs : List Msg) → Takes valid width capacity old xs → Takes valid width capacity old []
-  takes_none capacity old xs t = record { ranged = tt; room = omega (arith, t.room); few = omega arith }
-
   -- a post that is taken stands at the end
   pub post_taken : (capacity : ℕ) (old new : List Msg) (m : Msg) → Takes valid width capacity old (m ∷ []) → new ≡ posted valid width capacity old m → new ≡ old ++ m ∷ []
   post_taken capacity old new m t e =
@@ -46,21 +42,7 @@ posted_both a b c k k' k'' r s xs ys p q =
       kept = q.kept ∙ p.kept;
     }
 
--- and in three
-pub posted_three : (a b c d : List Msg) (k k1 k2 k3 r s t : ℕ) (xs ys zs : List Msg) → Posted a b k k1 r xs → Posted b c k1 k2 s ys → Posted c d k2 k3 t zs →
-    Posted a d k k3 ((r + s) + t) (xs ++ (ys ++ zs))
-posted_three a b c d k k1 k2 k3 r s t xs ys zs p q o =
-    let u = posted_both a b d k k1 k3 r (s + t) xs (ys ++ zs) p (posted_both b c d k1 k2 k3 s t ys zs q o) in
-    record { list = u.list; answer = omega (arith, u.answer); kept = u.kept }
-
--- the number of posts in parts is no larger than a number holds
-pub two_fit : {valid : List ℕ → Bool} {width capacity : ℕ} {old : List Msg} (xs ys : List Msg) (r s : ℕ) → Takes valid width capacity old (xs ++ ys) → r ≡ length xs → s ≡ length ys → r + s < 2 ^ 64
-two_fit xs ys r s t e f = omega (arith, t.few, length-append xs ys)
-
-pub three_fit : {valid : List ℕ → Bool} {width capacity : ℕ} {old : List Msg} (xs ys zs : List Msg) (r s q : ℕ) → Takes valid width capacity old (xs ++ (ys ++ zs)) →
-    r ≡ length xs → s ≡ length ys → q ≡ length zs → (r + s) + q < 2 ^ 64
-three_fit xs ys zs r s q t e f h = omega (arith, t.few, length-append xs (ys ++ zs), length-append ys zs)
-
+-- no posts
 pub posted-none : (a b : List Msg) (k k' r : ℕ) → b ≡ a → k' ≡ k → r ≡ 0 → Posted a b k k' r []
 posted-none a b k k' r e h z = record { list = e ∙ sym (append-nil a); answer = z; kept = h }
 
@@ -119,43 +101,3 @@ module _ (who : ℕ → Bool) (what : ℕ → Msg) where
   pub posted_start : (old : List Msg) (k : ℕ) → Posted old old k k 0 (to_each who what 0)
   unfolding to_each
   posted_start old k = posted-none old old k k 0 refl refl refl
-
--- the same posts by another name of the message
-pub takes_as : {valid : List ℕ → Bool} {width capacity : ℕ} {old : List Msg} (who : ℕ → Bool) (what what' : ℕ → Msg) (n : ℕ) → what' ≡ what →
-    Takes valid width capacity old (to_each who what n) → Takes valid width capacity old (to_each who what' n)
-takes_as {valid} {width} {capacity} {old} who what what' n e t = subst (λ f. Takes valid width capacity old (to_each who f n)) (sym e) t
-
-pub posted_as : {old new : List Msg} {k k' r : ℕ} (who : ℕ → Bool) (what what' : ℕ → Msg) (n : ℕ) → what' ≡ what →
-    Posted old new k k' r (to_each who what' n) → Posted old new k k' r (to_each who what n)
-posted_as {old} {new} {k} {k'} {r} who what what' n e p = subst (λ f. Posted old new k k' r (to_each who f n)) e p
-
--- one message that goes where a test is passed
-pub takes_if : {valid : List ℕ → Bool} {width capacity : ℕ} {old : List Msg} (b : Bool) (x y : Msg) → b ≡ true → y ≡ x →
-    Takes valid width capacity old (cond b (x ∷ []) []) → Takes valid width capacity old (y ∷ [])
-takes_if {valid} {width} {capacity} {old} b x y h e t =
-    subst (λ z. Takes valid width capacity old (z ∷ [])) (sym e) (subst (λ c. Takes valid width capacity old (cond c (x ∷ []) [])) h t)
-
-pub posted_if : {old new : List Msg} {k k' r : ℕ} (b : Bool) (x y : Msg) → b ≡ true → y ≡ x → Posted old new k k' r (y ∷ []) → Posted old new k k' r (cond b (x ∷ []) [])
-posted_if {old} {new} {k} {k'} {r} b x y h e q =
-    subst (λ c. Posted old new k k' r (cond c (x ∷ []) [])) (sym h) (subst (λ z. Posted old new k k' r (z ∷ [])) e q)
-
-pub posted_if_not : {old : List Msg} {k : ℕ} (b : Bool) (x : Msg) → b ≡ false → Posted old old k k 0 (cond b (x ∷ []) [])
-posted_if_not {old} {k} b x h = subst (λ c. Posted old old k k 0 (cond c (x ∷ []) [])) (sym h) (posted-none old old k k 0 refl refl refl)
-
--- the same list by another name
-pub takes_list : {valid : List ℕ → Bool} {width capacity : ℕ} {old : List Msg} (xs ys : List Msg) → xs ≡ ys → Takes valid width capacity old xs → Takes valid width capacity old ys
-takes_list {valid} {width} {capacity} {old} xs ys e = subst (Takes valid width capacity old) e
-
-pub posted-list : {old new : List Msg} {k k' r : ℕ} (xs ys : List Msg) → xs ≡ ys → Posted old new k k' r xs → Posted old new k k' r ys
-posted-list {old} {new} {k} {k'} {r} xs ys e = subst (Posted old new k k' r) e
-
--- posts in four parts
-pub posted-four : (a b c d e : List Msg) (k k1 k2 k3 k4 r s t u : ℕ) (xs ys zs us : List Msg) → Posted a b k k1 r xs → Posted b c k1 k2 s ys → Posted c d k2 k3 t zs → Posted d e k3 k4 u us →
-    Posted a e k k4 (((r + s) + t) + u) (xs ++ (ys ++ (zs ++ us)))
-posted-four a b c d e k k1 k2 k3 k4 r s t u xs ys zs us p q o n =
-    let z = posted_both a b e k k1 k4 r ((s + t) + u) xs (ys ++ (zs ++ us)) p (posted_three b c d e k1 k2 k3 k4 s t u ys zs us q o n) in
-    record { list = z.list; answer = omega (arith, z.answer); kept = z.kept }
-
-pub four_fit : {valid : List ℕ → Bool} {width capacity : ℕ} {old : List Msg} (xs ys zs us : List Msg) (r s q u : ℕ) → Takes valid width capacity old (xs ++ (ys ++ (zs ++ us))) →
-    r ≡ length xs → s ≡ length ys → q ≡ length zs → u ≡ length us → ((r + s) + q) + u < 2 ^ 64
-four_fit xs ys zs us r s q u t e f h i = omega (arith, t.few, length-append xs (ys ++ (zs ++ us)), length-append ys (zs ++ us), length-append zs us)

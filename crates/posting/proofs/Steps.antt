@@ -1,10 +1,10 @@
 -- One step and then another, and a step under another name.
-use Rattle.std.proofs.Common.{◌≡◌, ℕ, ◌+◌, ◌^◌, ◌<◌, Bool, List, [], ◌++◌, length, sym, refl, ap, ◌∙◌, subst}
+use Rattle.std.proofs.Common.{◌≡◌, ℕ, Bool, List, [], ◌++◌, length, sym, refl, ap, ◌∙◌, subst}
 use Rattle.std.proofs.lemmas.List.{append-nil}
 use Rattle.messages.specs.Messages.{Msg}
 use Rattle.rules.specs.Party.{Party, Step, still, and_then}
 use Rattle.posting.specs.Posting.{Takes, Does}
-use Rattle.posting.proofs.Lists.{takes_first, takes_rest, posted_both, posted-none, two_fit}
+use Rattle.posting.proofs.Lists.{takes_first, takes_rest, posted-none}
 
 module _ {valid : List ℕ → Bool} {width capacity : ℕ} {old : List Msg} where
   -- the posts of a step under another name are taken too
@@ -30,13 +30,6 @@ module _ {k k' r : ℕ} {old new : List Msg} where
 pub does_nothing : {k : ℕ} {old : List Msg} (p : Party) → Does (still p) p old old k k 0
 does_nothing {k} {old} p = record { party = refl; posts = posted-none old old k k 0 refl refl refl }
 
--- both are done
-pub does_both : {k k' k'' r r' : ℕ} {old mid new : List Msg} (s : Step) (next : Party → Step) (p q : Party) → Does s p old mid k k' r → Does (next p) q mid new k' k'' r' →
-    Does (and_then s next) q old new k k'' (r + r')
-does_both {k} {k'} {k''} {r} {r'} {old} {mid} {new} s next p q d e =
-    let e' : Does (next s.after) q mid new k' k'' r' = subst (λ x. Does (next x) q mid new k' k'' r') d.party e in
-    record { party = e'.party; posts = posted_both old mid new k k' k'' r r' s.posts (next s.after).posts d.posts e'.posts }
-
 -- a second step that posts nothing
 pub does_then : {k k' r : ℕ} {old new : List Msg} (s : Step) (next : Party → Step) (p q : Party) → Does s p old new k k' r → q ≡ (next p).after → (next p).posts ≡ [] →
     Does (and_then s next) q old new k k' r
@@ -47,9 +40,3 @@ does_then {k} {k'} {r} {old} {new} s next p q d e h =
       party = e ∙ ap (λ x. (next x).after) d.party;
       posts = record { list = d.posts.list ∙ ap (λ x. old ++ x) (sym l); answer = d.posts.answer ∙ ap length (sym l); kept = d.posts.kept };
     }
-
--- the number of posts of two steps is no larger than a number holds
-pub steps_fit : {valid : List ℕ → Bool} {width k k' k'' r r' : ℕ} {old mid new : List Msg} (s : Step) (next : Party → Step) (p q : Party) → Takes valid width k old (and_then s next).posts →
-    Does s p old mid k k' r → Does (next p) q mid new k' k'' r' → r + r' < 2 ^ 64
-steps_fit s next p q t d e =
-    two_fit s.posts (next s.after).posts _ _ t d.posts.answer (e.posts.answer ∙ ap (λ x. length (next x).posts) d.party)

@@ -3,6 +3,8 @@ use Rattle.std.proofs.Common.{◌≡◌, ℕ, zero, suc, ◌+◌, ◌-◌, ◌<�
 use mathlib.Core.Path.{fun_ext}
 use Rattle.std.proofs.lemmas.Bool.{cases_eq}
 use Rattle.std.proofs.lemmas.List.{map-set, get_or-map, length-map, get_or-set_same, get_or-set_other, take_all, drop_all, append-nil}
+use Rattle.std.proofs.lemmas.List.Edits.{map_over_more}
+use Rattle.std.proofs.Math.ListN.{get_or-map as mapped_get}
 use Rattle.rules.specs.Counting.{count, upd}
 use Rattle.rules.specs.Party as model
 use Rattle.rules.specs.Step.{empty_row}
@@ -73,3 +75,28 @@ module _ {V : Type 0} (bytes : V → List ℕ) where
   row_put rs (suc i) row low high =
       let k : suc i - 1 ≡ i = omega arith in
       ap (λ j. rows_of bytes (set rs j row)) k ∙ row_written rs i row (omega arith)
+
+  -- a loop that changes every row alike, up to a place
+  abbrev pub Changed : (model.Row → model.Row) → List (Row V) → List (Row V) → ℕ → Type 0
+  Changed change old new k = map (row_of bytes) new ≡ map change (take k (map (row_of bytes) old)) ++ drop k (map (row_of bytes) old)
+
+  pub changed_more : (change : model.Row → model.Row) (old new : List (Row V)) (k : ℕ) (was row : Row V) → k < length old → Changed change old new k → was ≡ get_or new k was →
+      row_of bytes row ≡ change (row_of bytes (get_or new k was)) → Changed change old (set new k row) (k + 1)
+  changed_more change old new k was row h e is to =
+      let read : row_of bytes was ≡ get_or (map (row_of bytes) new) k (row_of bytes was) = ap (row_of bytes) is ∙ sym (mapped_get (row_of bytes) new k was) in
+      map-set (row_of bytes) new k row ∙
+      (ap (set (map (row_of bytes) new) k) (to ∙ ap (λ r. change (row_of bytes r)) (sym is)) ∙
+      map_over_more change (map (row_of bytes) old) (map (row_of bytes) new) k (row_of bytes was) (rw length-map h) e read)
+
+  changed_at : (change : model.Row → model.Row) → change empty_row ≡ empty_row → (old new : List (Row V)) → map (row_of bytes) new ≡ map change (map (row_of bytes) old) →
+      (j : ℕ) → rows_of bytes new j ≡ change (rows_of bytes old j)
+  unfolding rows_of
+  changed_at change f old new e zero = sym f
+  changed_at change f old new e (suc i) =
+      ap (λ l. get_or l i empty_row) e ∙
+      (ap (get_or (map change (map (row_of bytes) old)) i) (sym f) ∙ mapped_get change (map (row_of bytes) old) i empty_row)
+
+  pub changed_all : (change : model.Row → model.Row) → change empty_row ≡ empty_row → (old new : List (Row V)) (k : ℕ) → length old ≤ k → Changed change old new k →
+      rows_of bytes new ≡ (λ j. change (rows_of bytes old j))
+  changed_all change f old new k h e =
+      fun_ext (changed_at change f old new (wholly_mapped change (map (row_of bytes) old) (map (row_of bytes) new) k (rw length-map h) e))

@@ -1,4 +1,6 @@
 // Keys with their values, and the contents of a suggest and of a proof.
+ghost use Rattle.std.specs.Prelude.{◌≡◌};
+ghost use Rattle.rules.specs.Tests.{below};
 
 // A view with the value that was kept in it; view 0 stands for never.
 #[derive(Clone, Copy)]
@@ -20,4 +22,11 @@ pub struct Suggest<V> {
 pub struct Proof<V> {
     pub key1: Keyed<V>,
     pub previous: Option<u32>,
+}
+
+// Whether a previous key is below a key; none always is.
+pub fn below_key(previous: Option<u32>, key: u32) -> bool
+    ensures { result ≡ below previous key }
+{
+    previous.is_none_or(|p| p < key)
 }

@@ -2,6 +2,8 @@
 #![tactic(auto)]
 
 pub mod keys;
+pub mod party;
 pub mod record;
 pub mod row;
 pub mod seat;
+pub mod vote;

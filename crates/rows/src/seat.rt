@@ -1,7 +1,7 @@
 // Where a party stands: its own number, in a ring of `n` parties of which `f` may lie.
 ghost use Rattle.std.specs.Prelude.{◌*◌, ◌<◌, ◌≤◌};
 
-#[derive(Clone, Copy)]
+#[derive(Clone, Copy, PartialEq, Eq, Debug)]
 pub struct Seat {
     pub n: u8,
     pub f: u8,

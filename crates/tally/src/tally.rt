@@ -7,7 +7,7 @@ ghost use Rattle.rows.specs.Meaning.{row_of, rows_of};
 use rows::row::Row;
 use values::value::Value;
 
-// A claim that a sender's row backs or not.
+// A claim that a sender's row backs or not: a type for each and no closure, since contracts cite the ghost member.
 pub trait Claim<V: Value> {
     ghost backed: { Self → Sender → Bool };
 
@@ -19,11 +19,5 @@ pub trait Claim<V: Value> {
 pub fn tally<V: Value, C: Claim<V>>(rows: &[Row<V>], claim: &C) -> usize
     ensures { result ≡ count (λ j. C.backed claim.now (rows_of V.bytes rows.now j)) (length rows.now) }
 {
-    let mut found = 0;
-    for row in rows {
-        if claim.backs(row) {
-            found += 1;
-        }
-    }
-    found
+    rows.iter().filter(|row| claim.backs(row)).count()
 }

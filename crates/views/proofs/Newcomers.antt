@@ -1,77 +1,23 @@
--- A party at set-up: its record, its empty rows, its bounds and its posts.
-use Rattle.std.proofs.Common.{◌≡◌, ℕ, zero, suc, ◌+◌, ◌≤◌, Bool, true, false, cond, eqb, List, [], ◌∷◌, ◌++◌, map, length, get_or, None, Option, refl, ap, ◌∙◌, inl, inr, arith, ne_eqb}
-use mathlib.Core.Path.{fun_ext}
+-- A party at set-up: its bounds and its posts.
+use Rattle.std.proofs.Common.{◌≡◌, ℕ, zero, suc, ◌+◌, ◌≤◌, Bool, true, false, List, [], ◌∷◌, ◌++◌, length, replicate, sym, refl, ap, ◌∙◌, subst, arith}
 use Rattle.std.specs.List.{AllByRecursion as All}
 use Rattle.std.proofs.lemmas.List.{length-append, append-nil}
 use Rattle.std.proofs.ByRecursion.{All-weaker}
-use Rattle.std.proofs.lemmas.Bool.{cases_eq}
-use Rattle.std.proofs.lemmas.Bool.Decides.{nat_tests}
-use Rattle.messages.specs.Messages.{Msg, between, in_range}
-use Rattle.rules.specs.Party as model
-use Rattle.rules.specs.Party.{Setting}
+use Rattle.messages.specs.Messages.{Msg, in_range}
+use Rattle.rules.specs.Party.{Setting, Party}
 use Rattle.rules.specs.Bounds.{every, row_fits, party_fits}
-use Rattle.rules.specs.Facts.{OwnPost}
+use Rattle.rules.specs.Facts.{OwnPost, Seated, Fits}
 use Rattle.rules.specs.Posts.{to_each, view_msg}
-use Rattle.rules.specs.Step.{empty_row, first_field, newcomer, enter}
+use Rattle.rules.specs.Step.{empty_row, newcomer, enter}
+use Rattle.rules.proofs.Ranges.{posts-in_range, bounds_kept}
+use Rattle.rows.specs.declared.record.Record.{Record}
 use Rattle.rows.specs.declared.row.Row.{Row}
-use Rattle.rows.specs.Meaning.{row_of, rows_of}
-use Rattle.posting.specs.Posting.{Takes}
-
--- the four fields, all alike, are the first fields
-pub four_alike : (x : List ℕ) (j : ℕ) →
-    ◌≡◌ {A = model.Keyed}
-    (cond (eqb j 6) (record { at = 0; value = x }) (cond (eqb j 7) (record { at = 0; value = x }) (cond (eqb j 8) (record { at = 0; value = x }) (cond (eqb j 9) (record { at = 0; value = x }) (record { at = 0; value = [] })))))
-    (first_field x j)
-four_alike x j =
-    elim (cases_eq j 6) [
-      | inl q ↦ rw q
-      | inr q ↦ elim (cases_eq j 7) [
-        | inl r ↦ rw r
-        | inr r ↦ elim (cases_eq j 8) [
-          | inl s ↦ rw s
-          | inr s ↦ elim (cases_eq j 9) [
-            | inl t ↦ rw t
-            | inr t ↦
-                let b : between 6 9 j ≡ false = grind (arith, nat_tests) in
-                rw (ne_eqb j 6 q, ne_eqb j 7 r, ne_eqb j 8 s, ne_eqb j 9 t, b)
-          ]
-        ]
-      ]
-    ]
-
-pub no_previous : (j : ℕ) → ◌≡◌ {A = Option ℕ} (cond (eqb j 6) None (cond (eqb j 7) None None)) None
-no_previous j = elim (cases_eq j 6) [ inl q ↦ rw q | inr q ↦ elim (cases_eq j 7) [ inl r ↦ rw r | inr r ↦ rw (ne_eqb j 6 q, ne_eqb j 7 r) ] ]
-
-five_alike : {X : Type 0} {x : X} (a b c d e : Bool) → cond a x (cond b x (cond c x (cond d x (cond e x x)))) ≡ x
-five_alike true b c d e = refl
-five_alike false true c d e = refl
-five_alike false false true d e = refl
-five_alike false false false true e = refl
-five_alike false false false false true = refl
-five_alike false false false false false = refl
-
-module _ {V : Type 0} (bytes : V → List ℕ) where
-  abbrev pub blank_row : Row V
-  blank_row =
-      record { request = 0; abort = 0; done = None; suggest = None; proof = None; echo = None; key1 = None; key2 = None; key3 = None; lock = None }
-
-  blank_means : row_of bytes blank_row ≡ empty_row
-  blank_means =
-      ap (λ t. record { request = 0; abort = 0; done = None; suggest = None; proof = None; vote = t })
-      (fun_ext (λ k. five_alike (eqb k 5) (eqb k 6) (eqb k 7) (eqb k 8) (eqb k 9)))
-
-  at_index : (rs : List (Row V)) (i : ℕ) → get_or (map (row_of bytes) (map (λ _. blank_row) rs)) i empty_row ≡ empty_row
-  at_index [] i = refl
-  at_index (r ∷ rs) zero = blank_means
-  at_index (r ∷ rs) (suc i) = at_index rs i
-
-  by_sender : (rs : List (Row V)) (j : ℕ) → rows_of bytes (map (λ _. blank_row) rs) j ≡ empty_row
-  unfolding rows_of
-  by_sender rs zero = refl
-  by_sender rs (suc i) = at_index rs i
-
-  pub all_blank : (rs new : List (Row V)) → new ≡ map (λ _. blank_row) rs → rows_of bytes new ≡ (λ _. empty_row)
-  all_blank rs new e = ap (rows_of bytes) e ∙ fun_ext (by_sender rs)
+use Rattle.rows.specs.declared.seat.Seat.{Seat}
+use Rattle.rows.specs.Meaning.{setting_of, record_of, rows_of, party_of}
+use Rattle.posting.specs.Posting.{Takes, Does}
+use Rattle.posting.proofs.Choosing.{two_parts}
+use Rattle.posting.proofs.Steps.{does_same}
+use Rattle.posting.proofs.Within.{all_values}
 
 -- its bounds
 every_empty : (n : ℕ) → every (λ j. row_fits empty_row) n ≡ true
@@ -109,3 +55,34 @@ takes_first_posts valid g me capacity old posts h a f r =
       room = omega (arith, f, r);
       few = omega (arith, f, h);
     }
+
+-- ## A code's record and rows that are those of a newcomer: the party may enter view 1
+module _ {V : Type 0} (bytes : V → List ℕ) (allows valid : List ℕ → Bool) (width : ℕ) (sized : (v : V) → length (bytes v) ≡ width) (sound : (v : V) → valid (bytes v) ≡ true) (blank : valid (replicate width 0) ≡ true) (seat : Seat) (x : List ℕ) (own : Record V) (rs : List (Row V)) (e : record_of bytes own ≡ (newcomer x).rec) (f : rows_of bytes rs ≡ (λ _. empty_row)) where
+  abbrev g : Setting
+  g = setting_of width allows seat
+
+  abbrev p : Party
+  p = party_of bytes own rs
+
+  new : p ≡ newcomer x
+  new = two_parts _ _ _ _ e f
+
+  seated : Seated valid g seat.me
+  seated = record { blank = blank; size = seat.most; low = seat.first; high = seat.last }
+
+  fits : Fits valid g p
+  fits = record { numbers = ap (party_fits seat.n) new ∙ newcomer_fits x seat.n; values = all_values bytes valid width sized sound own rs seat.n }
+
+  low : p.rec.view ≤ 1
+  low = subst (λ (q : Party). q.rec.view ≤ 1) (sym new) (omega arith)
+
+  pub takes_entry : (capacity : ℕ) (old : List Msg) → length old + seat.n ≤ capacity → Takes valid width capacity old (enter g seat.me p 1).posts
+  takes_entry capacity old r =
+      takes_first_posts valid g seat.me capacity old (enter g seat.me p 1).posts seat.most (posts-in_range.by_entry valid g seat.me p 1 seated fits low (omega arith))
+      (ap (λ q. length (enter g seat.me q 1).posts) new ∙ first_posts g seat.me x) r
+
+  pub entry_does : {q : Party} {k k' r : ℕ} {old after : List Msg} → Does (enter g seat.me p 1) q old after k k' r → Does (enter g seat.me (newcomer x) 1) q old after k k' r
+  entry_does {q} d = does_same _ _ q (ap (λ t. enter g seat.me t 1) new) d
+
+  pub entry_fits : {q : Party} {k k' r : ℕ} {old after : List Msg} → Does (enter g seat.me p 1) q old after k k' r → party_fits seat.n q ≡ true
+  entry_fits d = ap (party_fits seat.n) d.party ∙ (bounds_kept.by_entry valid g seat.me p 1 seated fits low (omega arith)).numbers

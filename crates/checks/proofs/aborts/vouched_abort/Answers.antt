@@ -4,4 +4,4 @@ use Rattle.checks.proofs.aborts.vouched_abort.Goals as goal
 
 pub returns : goal.returns
 returns g c =
-    largest_by (λ j. (rows_of g.V.Value.bytes c.args.rows.now j).abort) _ _ _ _ _ c.reached_by.ensures c.voucher_size.ensures c.requires
+    largest_by (λ j. (rows_of g.V.Value.bytes c.args.party.now.rows.now j).abort) _ _ _ _ _ c.reached_by.ensures c.voucher_size.ensures c.args.party.now.whole

@@ -7,4 +7,4 @@ use Rattle.checks.proofs.suggests.best_of.Given as goal
 abbrev pub invariant-loop-row : goal.invariant-loop-row
 invariant-loop-row g l =
     let v = g.V.Value in
-    option_map (suggest_of v.bytes) l.top ≡ best (setting_of v.width v.allows l.seat) (party_of v.bytes l.own l.rows) l.row-index
+    option_map (suggest_of v.bytes) l.top ≡ best (setting_of v.width v.allows l.party.seat) (party_of v.bytes l.party.own.now l.party.rows.now) l.row-index

@@ -14,9 +14,9 @@ same_facts k r v v' a a' h l l' f f' e ev ea el ef =
 pub returns : goal.returns
 returns g c =
     let v = g.V.Value in
-    let s = setting_of v.width v.allows c.args.seat in
+    let s = setting_of v.width v.allows c.args.party.now.seat in
     let m = c.args.m.now in
     same_facts m.kind _ _ _ _ _ _ _ _ _ _ c.takes_in.ensures c.is_open.ensures
     (ap (λ r. ltb r.request m.view) c.row_from-row.ensures)
-    (c.is_led-led.ensures ∙ ap (λ k. led_by c.args.seat.me k m.from m.kind) c.primary_of.ensures)
-    (c.is_first-first.ensures s ∙ ap (λ r. first_by s (proposal_of v.bytes c.args.own.now.proposal) r m.kind) c.row_from-row.ensures)
+    (c.is_led.ensures ∙ ap (λ k. led_by c.args.party.now.seat.me k m.from m.kind) c.primary_of-primary.ensures)
+    (c.is_first.ensures s ∙ ap (λ r. first_by s (proposal_of v.bytes c.args.party.now.own.now.proposal) r m.kind) c.row_from-row.ensures)

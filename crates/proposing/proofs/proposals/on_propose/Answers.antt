@@ -1,29 +1,12 @@
 use Rattle.std.proofs.Common.{sym}
-use Rattle.messages.specs.Meaning.{message}
-use Rattle.rows.specs.Meaning.{setting_of, party_of}
 use Rattle.posting.proofs.Steps.{takes_same, does_same}
-use Rattle.proposing.proofs.Settled.{settled-propose}
+use Rattle.proposing.proofs.Settled.{settled_propose}
 use Rattle.proposing.proofs.proposals.on_propose.Goals as goal
 
 pub settle-requires : goal.settle-requires
 settle-requires g c =
-    let v = g.V.Value in
-    let s = setting_of v.width v.allows c.args.seat in
-    let me = c.args.seat.me in
-    let own = c.args.own.now in
-    let p = party_of v.bytes own c.args.rows.now in
-    let m = message v.bytes c.args.propose.now in
-    record {
-      whole = c.requires.whole.0;
-      taken = takes_same _ _ (sym (settled-propose s me p m c.requires.whole.1 c.requires.whole.2)) c.requires.taken;
-    }
+    takes_same _ _ (sym (settled_propose _ _ _ _ c.requires.whole.0 c.requires.whole.1)) c.requires.taken
 
-pub returns : goal.returns
-returns g c =
-    let v = g.V.Value in
-    let s = setting_of v.width v.allows c.args.seat in
-    let me = c.args.seat.me in
-    let own = c.args.own.now in
-    let p = party_of v.bytes own c.args.rows.now in
-    let m = message v.bytes c.args.propose.now in
-    does_same _ _ _ (settled-propose s me p m c.requires.whole.1 c.requires.whole.2) c.settle.ensures
+pub returns-clause-step : goal.returns-clause-step
+returns-clause-step g c =
+    does_same _ _ _ (settled_propose _ _ _ _ c.requires.whole.0 c.requires.whole.1) c.settle.ensures.step

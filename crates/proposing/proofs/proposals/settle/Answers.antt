@@ -1,39 +1,16 @@
 use Rattle.std.proofs.Common.{sym}
-use Rattle.messages.specs.Meaning.{message}
-use Rattle.rows.specs.Meaning.{setting_of, party_of}
 use Rattle.posting.proofs.Steps.{takes_same, does_same, does_nothing}
-use Rattle.proposing.proofs.Settled.{settled-still, settled-taken}
+use Rattle.proposing.proofs.Settled.{settled_still, settled_taken}
 use Rattle.proposing.proofs.proposals.settle.Goals as goal
 
 pub take_state-requires : goal.take_state-requires
 take_state-requires g c =
-    let v = g.V.Value in
-    let s = setting_of v.width v.allows c.args.seat in
-    let me = c.args.seat.me in
-    let own = c.args.own.now in
-    let p = party_of v.bytes own c.args.rows.now in
-    let m = message v.bytes c.args.m.now in
-    record {
-      whole = c.requires.whole;
-      taken = takes_same _ _ (settled-taken s me p m _ c.if-settled_already.ensures c.after_message-state.ensures) c.requires.taken;
-    }
+    takes_same _ _ (settled_taken _ _ _ _ _ c.if-settled_already.ensures c.after_message-state.ensures) c.requires
 
-pub returns-then-settled_already : goal.returns-then-settled_already
-returns-then-settled_already g c =
-    let v = g.V.Value in
-    let s = setting_of v.width v.allows c.args.seat in
-    let me = c.args.seat.me in
-    let own = c.args.own.now in
-    let p = party_of v.bytes own c.args.rows.now in
-    let m = message v.bytes c.args.m.now in
-    does_same _ _ _ (sym (settled-still s me p m c.if-settled_already.ensures)) (does_nothing p)
+pub returns-then-settled_already-clause-step : goal.returns-then-settled_already-clause-step
+returns-then-settled_already-clause-step g c =
+    does_same _ _ _ (sym (settled_still _ _ _ _ c.if-settled_already.ensures)) (does_nothing _)
 
-pub returns-else-settled_already : goal.returns-else-settled_already
-returns-else-settled_already g c =
-    let v = g.V.Value in
-    let s = setting_of v.width v.allows c.args.seat in
-    let me = c.args.seat.me in
-    let own = c.args.own.now in
-    let p = party_of v.bytes own c.args.rows.now in
-    let m = message v.bytes c.args.m.now in
-    does_same _ _ _ (sym (settled-taken s me p m _ c.if-settled_already.ensures c.after_message-state.ensures)) c.take_state.ensures
+pub returns-else-settled_already-clause-step : goal.returns-else-settled_already-clause-step
+returns-else-settled_already-clause-step g c =
+    does_same _ _ _ (sym (settled_taken _ _ _ _ _ c.if-settled_already.ensures c.after_message-state.ensures)) c.take_state.ensures.step

@@ -1,48 +1,16 @@
-use Rattle.std.proofs.Common.{ℕ, sym, ap, arith}
-use Rattle.messages.specs.Meaning.{message}
-use Rattle.rules.specs.Party.{Row, Party}
-use Rattle.rows.specs.Meaning.{setting_of, record_of, party_of}
+use Rattle.std.proofs.Common.{sym}
 use Rattle.posting.proofs.Steps.{takes_same, does_same, does_nothing}
-use Rattle.proposing.proofs.Ways.{suggest_proposed, suggest-still}
+use Rattle.proposing.proofs.Ways.{suggest_proposed, suggest_still}
 use Rattle.proposing.proofs.suggests.on_suggest.Goals as goal
 
 pub propose_from-requires : goal.propose_from-requires
 propose_from-requires g c =
-    let v = g.V.Value in
-    let s = setting_of v.width v.allows c.args.seat in
-    let me = c.args.seat.me in
-    let own = c.args.own.now in
-    let p = party_of v.bytes own c.args.rows.now in
-    let m = message v.bytes c.args.m.now in
-    let with_rows : (ℕ → Row) → Party = λ t. record { rec = record_of v.bytes own; rows = t } in
-    let q = party_of v.bytes own c.note_suggest.new.rows in
-    let told = ap with_rows c.note_suggest.ensures in
-    let way = suggest_proposed s me p m q _ told c.if-due_propose.ensures c.best_of-best.ensures in
-    record { whole = omega (arith, c.requires.whole.0); taken = takes_same _ _ way c.requires.taken }
+    takes_same _ _ (suggest_proposed _ _ _ _ _ _ c.note_suggest.ensures c.if-due_propose.ensures c.best_of-best.ensures) c.requires.taken
 
-pub returns-then-due_propose : goal.returns-then-due_propose
-returns-then-due_propose g c =
-    let v = g.V.Value in
-    let s = setting_of v.width v.allows c.args.seat in
-    let me = c.args.seat.me in
-    let own = c.args.own.now in
-    let p = party_of v.bytes own c.args.rows.now in
-    let m = message v.bytes c.args.m.now in
-    let with_rows : (ℕ → Row) → Party = λ t. record { rec = record_of v.bytes own; rows = t } in
-    let q = party_of v.bytes own c.note_suggest.new.rows in
-    let told = ap with_rows c.note_suggest.ensures in
-    let way = suggest_proposed s me p m q _ told c.if-due_propose.ensures c.best_of-best.ensures in
-    does_same _ _ _ (sym way) c.propose_from.ensures
+pub returns-then-due_propose-clause-step : goal.returns-then-due_propose-clause-step
+returns-then-due_propose-clause-step g c =
+    does_same _ _ _ (sym (suggest_proposed _ _ _ _ _ _ c.note_suggest.ensures c.if-due_propose.ensures c.best_of-best.ensures)) c.propose_from.ensures.step
 
-pub returns-else-due_propose : goal.returns-else-due_propose
-returns-else-due_propose g c =
-    let v = g.V.Value in
-    let s = setting_of v.width v.allows c.args.seat in
-    let me = c.args.seat.me in
-    let own = c.args.own.now in
-    let p = party_of v.bytes own c.args.rows.now in
-    let m = message v.bytes c.args.m.now in
-    let with_rows : (ℕ → Row) → Party = λ t. record { rec = record_of v.bytes own; rows = t } in
-    let q = party_of v.bytes own c.note_suggest.new.rows in
-    let told = ap with_rows c.note_suggest.ensures in
-    does_same _ _ _ (sym (suggest-still s me p m q told c.if-due_propose.ensures)) (does_nothing q)
+pub returns-else-due_propose-clause-step : goal.returns-else-due_propose-clause-step
+returns-else-due_propose-clause-step g c =
+    does_same _ _ _ (sym (suggest_still _ _ _ _ _ c.note_suggest.ensures c.if-due_propose.ensures)) (does_nothing _)

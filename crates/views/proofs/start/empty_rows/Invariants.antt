@@ -1,6 +1,6 @@
-use Rattle.std.proofs.Common.{◌≡◌, ◌++◌, map, take, drop}
-use Rattle.views.proofs.Newcomers.{blank_row}
+use Rattle.rules.specs.Step.{empty_row}
+use Rattle.rows.proofs.Senders.{Changed}
 use Rattle.views.proofs.start.empty_rows.Given as goal
 
 abbrev pub invariant-loop-row : goal.invariant-loop-row
-invariant-loop-row g l = l.rows ≡ map (λ _. blank_row g.V.Value.bytes) (take l.row-index l.initial.rows) ++ drop l.row-index l.initial.rows
+invariant-loop-row g l = Changed g.V.Value.bytes (λ _. empty_row) l.initial.rows l.rows l.row-index

@@ -1,11 +1,10 @@
-use mathlib.Core.Path.{ap}
-use Rattle.rules.specs.Party.{Record, Party}
-use Rattle.rows.specs.Meaning.{setting_of, rows_of}
+use Rattle.std.proofs.Common.{rules, refl}
+use Rattle.rows.specs.Meaning.{setting_of}
+use Rattle.posting.proofs.Choosing.{two_parts}
 use Rattle.voting.proofs.votes.announce.Goals as goal
 
-pub returns : goal.returns
-returns g c =
-    let v = g.V.Value in
-    let s = setting_of v.width v.allows c.args.seat in
-    let with-own : Record → Party = λ r. record { rec = r; rows = rows_of v.bytes c.args.rows.now } in
-    record { party = ap with-own (c.move_field.ensures s c.args.seat.me); posts = c.make_vote-posts.ensures }
+pub returns-clause-step : goal.returns-clause-step
+returns-clause-step g c =
+    let seat = c.args.party.now.seat in
+    let moved = c.move_field.ensures (setting_of g.V.Value.width g.V.Value.allows seat) seat.me in
+    record { party = two_parts _ _ _ _ moved refl; posts = search rules }

@@ -1,5 +1,0 @@
-use Rattle.std.proofs.Common.{sym, rules}
-use Rattle.notes.proofs.notes.note_suggest.Goals as goal
-
-pub returns : goal.returns
-returns g c = let e = sym c.row_from-row.ensures in search (rules, e)
