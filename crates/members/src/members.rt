@@ -1,10 +1,9 @@
 // The tests that several calls share.
-ghost use Rattle.std.specs.Prelude.{◌≡◌, ◌&&◌, if◌then◌else◌, Some, None, nat_le};
-ghost use Rattle.std.specs.Option.{option_map};
+ghost use Rattle.std.specs.Prelude.{◌≡◌, ◌&&◌, if◌then◌else◌, nat_le};
 ghost use Rattle.messages.specs.Messages.{between};
 ghost use Rattle.wires.specs.Wire.{room_left};
 ghost use Rattle.agreement.specs.Ring.{step_room};
-ghost use Rattle.tables.specs.Refusals.{refusal_number};
+ghost use Rattle.tables.specs.Meaning.{result_of};
 
 use messages::message::Message;
 use tables::refusal::Refusal;
@@ -33,15 +32,16 @@ pub fn has_room<V: Value, W: Wire<V>>(ring: &Ring, wire: &W) -> bool
     3 * ring.n as usize + 8 <= wire.room()
 }
 
-// Why a party may not act: first, it is not of the ring; then, it is honest where a faulty one is wanted, or the reverse.
-pub fn standing_refusal(known: bool, suited: bool) -> Option<Refusal>
-    ensures { option_map refusal_number result ≡ (if known then (if suited then None else Some 3) else Some 2) }
+// Whether a party may act. First, it is of the ring; then, it is faulty where a faulty one is wanted, or honest where an
+// honest one is.
+pub fn standing(known: bool, suited: bool) -> Result<(), Refusal>
+    ensures { result_of (λ u. u) result ≡ (if known then (if suited then Ok tt else Err 3) else Err 2) }
 {
     if !known {
-        return Some(Refusal::NoParty);
+        return Err(Refusal::NoParty);
     }
     if !suited {
-        return Some(Refusal::Standing);
+        return Err(Refusal::Standing);
     }
-    None
+    Ok(())
 }

@@ -1,5 +1,5 @@
 -- The first steps of the parties from 1 to i.
-use Rattle.std.proofs.Common.{◌≡◌, ℕ, zero, suc, ◌+◌, ◌-◌, ◌*◌, ◌<◌, ◌≤◌, Bool, true, false, cond, not, ◌&&◌, leb, List, [], ◌++◌, map, length, get_or, sym, refl, ap, ◌∙◌, inl, inr, mul-le-mul_right, suc-mul, add-one, arith}
+use Rattle.std.proofs.Common.{◌≡◌, ℕ, zero, suc, ◌+◌, ◌-◌, ◌*◌, ◌<◌, ◌≤◌, Bool, true, false, cond, not, ◌&&◌, leb, List, [], ◌++◌, map, length, get_or, sym, refl, ap, ◌∙◌, inl, inr, mul-le-mul_right, suc-mul, arith}
 use mathlib.Core.Path.{fun_ext}
 use Rattle.std.proofs.lemmas.List.{get_or-map, append-nil, append_assoc, length-append}
 use Rattle.std.proofs.lemmas.Bool.{cases_eq, cases_lt, eq-eqb, ne_eqb, le-leb, lt-leb}
@@ -11,9 +11,6 @@ use Rattle.agreement.specs.Ring.{Kind, Ring, setting}
 use Rattle.agreement.specs.Calls.{Plan, named, own_of, planned, first_step, first_posts, stepped, set_up_done}
 
 -- the own value of a party, as the code reads it
-pub own_read : {V : Type 0} (bytes : V → List ℕ) (own : List V) (i : ℕ) (v : V) → i < length own → v ≡ get_or own i v → own_of (map bytes own) (i + 1) ≡ bytes v
-own_read bytes own i v h e = ap (own_of (map bytes own)) (add-one i) ∙ (get_or-map bytes own i v [] h ∙ ap bytes (sym e))
-
 pub own-from : {V : Type 0} (bytes : V → List ℕ) (own : List V) (party : ℕ) (v : V) → 1 ≤ party → party ≤ length own → v ≡ get_or own (party - 1) v →
     own_of (map bytes own) party ≡ bytes v
 own-from bytes own zero v low high e = absurd (omega arith)
@@ -99,19 +96,28 @@ module _ (k : Kind) (p : Plan) (s : Ring) where
         | inr q ↦ other i j q
       ]
 
-  pub up_to_honest : (i : ℕ) (t s' : Ring) → t ≡ up_to i → named p.word (i + 1) ≡ false → s' ≡ (stepped t (i + 1) t.wire (first_step k p s (i + 1))).after → s' ≡ up_to (i + 1)
-  up_to_honest i t s' e h q =
-      let h' : named p.word (suc i) ≡ false = sym (ap (named p.word) (add-one i)) ∙ h in
-      q ∙ (ap (λ t. (stepped t (i + 1) t.wire (first_step k p s (i + 1))).after) e ∙ (ap (λ j. (stepped (up_to i) j (up_to i).wire (first_step k p s j)).after) (add-one i) ∙
-      (ap (λ u. over u ((s.wire ++ first_posts k p s i) ++ (first_step k p s (suc i)).posts)) (fun_ext (honest-at i h')) ∙
-      (ap (over (entered (suc i))) (append_assoc s.wire (first_posts k p s i) (first_step k p s (suc i)).posts ∙ ap (λ l. s.wire ++ l) (sym (posts_more i false h'))) ∙
-      ap up_to (sym (add-one i))))))
+  honest_more : (i : ℕ) (t s' : Ring) → t ≡ up_to i → named p.word (suc i) ≡ false → s' ≡ (stepped t (suc i) t.wire (first_step k p s (suc i))).after → s' ≡ up_to (suc i)
+  honest_more i t s' e h q =
+      q ∙ (ap (λ t. (stepped t (suc i) t.wire (first_step k p s (suc i))).after) e ∙
+      (ap (λ u. over u ((s.wire ++ first_posts k p s i) ++ (first_step k p s (suc i)).posts)) (fun_ext (honest-at i h)) ∙
+      ap (over (entered (suc i))) (append_assoc s.wire (first_posts k p s i) (first_step k p s (suc i)).posts ∙ ap (λ l. s.wire ++ l) (sym (posts_more i false h)))))
 
-  pub up_to_faulty : (i : ℕ) (t : Ring) → t ≡ up_to i → named p.word (i + 1) ≡ true → t ≡ up_to (i + 1)
-  up_to_faulty i t e h =
-      let h' : named p.word (suc i) ≡ true = sym (ap (named p.word) (add-one i)) ∙ h in
-      e ∙ (ap (λ u. over u (s.wire ++ first_posts k p s i)) (fun_ext (faulty-at i h')) ∙
-      (ap (λ l. over (entered (suc i)) (s.wire ++ l)) (sym (posts_more i true h' ∙ append-nil (first_posts k p s i))) ∙ ap up_to (sym (add-one i))))
+  faulty_more : (i : ℕ) (t : Ring) → t ≡ up_to i → named p.word (suc i) ≡ true → t ≡ up_to (suc i)
+  faulty_more i t e h =
+      e ∙ (ap (λ u. over u (s.wire ++ first_posts k p s i)) (fun_ext (faulty-at i h)) ∙
+      ap (λ l. over (entered (suc i)) (s.wire ++ l)) (sym (posts_more i true h ∙ append-nil (first_posts k p s i))))
+
+  -- the same by the party's own number, counted from 1
+  pub up_to_honest : (party : ℕ) (t s' : Ring) → 1 ≤ party → t ≡ up_to (party - 1) → named p.word party ≡ false → s' ≡ (stepped t party t.wire (first_step k p s party)).after → s' ≡ up_to party
+  up_to_honest zero t s' low e h q = absurd (omega arith)
+  up_to_honest (suc i) t s' low e h q = let back : suc i - 1 ≡ i = omega arith in honest_more i t s' (e ∙ ap up_to back) h q
+
+  pub up_to_faulty : (party : ℕ) (t : Ring) → 1 ≤ party → t ≡ up_to (party - 1) → named p.word party ≡ true → t ≡ up_to party
+  up_to_faulty zero t low e h = absurd (omega arith)
+  up_to_faulty (suc i) t low e h = let back : suc i - 1 ≡ i = omega arith in faulty_more i t (e ∙ ap up_to back) h
+
+  pub up_to_next : (party : ℕ) → up_to party ≡ up_to ((party + 1) - 1)
+  up_to_next party = let on : party ≡ (party + 1) - 1 = omega arith in ap up_to on
 
   -- ## Room for the next
   some_posts : (i : ℕ) (b : Bool) → length (cond b [] (first_step k p s i).posts) ≤ p.n
@@ -125,11 +131,14 @@ module _ (k : Kind) (p : Plan) (s : Ring) where
       let b = named p.word (suc i) in
       omega (arith, posts-few i, some_posts (suc i) b, length-append (first_posts k p s i) (cond b [] (first_step k p s (suc i)).posts), suc-mul i p.n)
 
-  pub room_for_next : (i : ℕ) (t : Ring) → t ≡ up_to i → i < p.n → length s.wire + p.n * p.n ≤ s.capacity → length t.wire + p.n ≤ t.capacity
-  room_for_next i t e h room =
+  room_more : (i : ℕ) (t : Ring) → t ≡ up_to i → i < p.n → length s.wire + p.n * p.n ≤ s.capacity → length t.wire + p.n ≤ t.capacity
+  room_more i t e h room =
       let a : length t.wire ≡ length (s.wire ++ first_posts k p s i) = ap (λ t. length t.wire) e in
       let b : t.capacity ≡ s.capacity = ap (λ t. t.capacity) e in
       omega (arith, a, b, room, posts-few i, length-append s.wire (first_posts k p s i), mul-le-mul_right p.n h, suc-mul i p.n)
+
+  pub room_for_next : (party : ℕ) (t : Ring) → 1 ≤ party → party ≤ p.n → t ≡ up_to (party - 1) → length s.wire + p.n * p.n ≤ s.capacity → length t.wire + p.n ≤ t.capacity
+  room_for_next party t low high e room = room_more (party - 1) t e (omega arith) room
 
 -- ## The sizes and the liars that stood before do not matter
 same_posts : (k : Kind) (p : Plan) (s t : Ring) (i : ℕ) → first_posts k p t i ≡ first_posts k p s i

@@ -1,2 +1,3 @@
 pub mod Firsts
+pub mod Entries
 pub mod Tests

@@ -1,12 +1,14 @@
 -- Set-up against the rules, test by test.
-use Rattle.std.proofs.Common.{◌≡◌, ℕ, ◌*◌, ◌^◌, ◌<◌, ◌≤◌, Bool, true, false, cond, ◌&&◌, eqb, ltb, leb, length, Some, None, sym, refl, ap, ◌∙◌, arith}
+use Rattle.std.proofs.Common.{◌≡◌, ℕ, ◌*◌, ◌^◌, ◌<◌, ◌≤◌, Bool, true, false, cond, ◌&&◌, eqb, ltb, leb, List, map, length, Some, None, sym, refl, ap, ◌∙◌, arith}
 use Rattle.std.proofs.lemmas.Bool.{and_left, and_right, and_parts, le-leb, lt-leb, leb-true, ltb-true}
+use Rattle.std.proofs.lemmas.List.{length-map}
 use Rattle.messages.specs.Messages.{between}
 use Rattle.rules.specs.Counting.{count}
 use Rattle.rules.specs.Thresholds.{sizes_fit}
 use Rattle.agreement.specs.Ring.{Kind, Ring, room}
 use Rattle.agreement.specs.Calls.{said, refused, Outcome, Plan, refuse, named, set_up_done, own_allowed, places_enough, set_up, Gives}
 use Rattle.agreement.proofs.Obeyed.{answered}
+use Rattle.setup.specs.Meaning.{plan_of}
 use Rattle.setup.specs.Order.{by_order}
 
 -- ## Sizes
@@ -120,24 +122,63 @@ module _ (k : Kind) (p : Plan) (s : Ring) where
                   let o : set_up k p s ≡ set_up_done k p s = past_6 ∙ ap (by_tests true true true true true true) (sym g) in
                   record { answer = sym (ap (λ o. o.answer) o); after = q ∙ sym (ap (λ o. o.after) o) }
 
-  -- ## The first test that fails
-  pub plan_refused : true ≡ t1 → (a b c d e f : Bool) (number : ℕ) → a ≡ t2 → b ≡ t3 → c ≡ t4 → (true ≡ t4 → d ≡ t5) → e ≡ t6 → f ≡ t7 →
-      Some number ≡ by_order a b c d e f → Gives (set_up k p s) (refused number) s
-  plan_refused z false b c d e f number pa pb pc pd pe pf h = let q : number ≡ 2 = cc in answered number 2 q (refuse_2 z pa)
-  plan_refused z true false c d e f number pa pb pc pd pe pf h = let q : number ≡ 3 = cc in answered number 3 q (refuse_3 z pa pb)
-  plan_refused z true true false d e f number pa pb pc pd pe pf h = let q : number ≡ 4 = cc in answered number 4 q (refuse_4 z pa pb pc)
-  plan_refused z true true true false e f number pa pb pc pd pe pf h = let q : number ≡ 5 = cc in answered number 5 q (refuse_5 z pa pb pc (pd pc))
-  plan_refused z true true true true false f number pa pb pc pd pe pf h = let q : number ≡ 11 = cc in answered number 11 q (refuse_11 z pa pb pc (pd pc) pe)
-  plan_refused z true true true true true false number pa pb pc pd pe pf h = let q : number ≡ 10 = cc in answered number 10 q (refuse_10 z pa pb pc (pd pc) pe pf)
-  plan_refused z true true true true true true number pa pb pc pd pe pf h = absurd (let q : ◌≡◌ {A = ℕ} 0 1 = cc in omega arith)
+  -- ## What an inspection tells of the plan
+  pub record Inspected (named few places owns vacant roomy : Bool) : Type 0 where
+    pub by_names : named ≡ t2
+    pub by_count : few ≡ t3
+    pub by_places : places ≡ t4
+    pub by_values : true ≡ t4 → owns ≡ t5
+    pub by_wire : vacant ≡ t6
+    pub by_room : roomy ≡ t7
+
+  -- the first test that fails
+  pub plan_refused : true ≡ t1 → (a b c d e f : Bool) (number : ℕ) → Inspected a b c d e f → Some number ≡ by_order a b c d e f → Gives (set_up k p s) (refused number) s
+  plan_refused z false b c d e f number i h = let q : number ≡ 2 = cc in answered number 2 q (refuse_2 z i.by_names)
+  plan_refused z true false c d e f number i h = let q : number ≡ 3 = cc in answered number 3 q (refuse_3 z i.by_names i.by_count)
+  plan_refused z true true false d e f number i h = let q : number ≡ 4 = cc in answered number 4 q (refuse_4 z i.by_names i.by_count i.by_places)
+  plan_refused z true true true false e f number i h = let q : number ≡ 5 = cc in answered number 5 q (refuse_5 z i.by_names i.by_count i.by_places (i.by_values i.by_places))
+  plan_refused z true true true true false f number i h =
+      let q : number ≡ 11 = cc in answered number 11 q (refuse_11 z i.by_names i.by_count i.by_places (i.by_values i.by_places) i.by_wire)
+  plan_refused z true true true true true false number i h =
+      let q : number ≡ 10 = cc in answered number 10 q (refuse_10 z i.by_names i.by_count i.by_places (i.by_values i.by_places) i.by_wire i.by_room)
+  plan_refused z true true true true true true number i h = absurd (let q : ◌≡◌ {A = ℕ} 0 1 = cc in omega arith)
 
   -- where none fails all hold
-  pub plan_free : (a b c d e f : Bool) → a ≡ t2 → b ≡ t3 → c ≡ t4 → (true ≡ t4 → d ≡ t5) → e ≡ t6 → f ≡ t7 → None ≡ by_order a b c d e f →
-      (true ≡ t2) × (true ≡ t3) × (true ≡ t4) × (true ≡ t5) × (true ≡ t6) × (true ≡ t7)
-  plan_free false b c d e f pa pb pc pd pe pf h = absurd (let q : ◌≡◌ {A = ℕ} 0 1 = cc in omega arith)
-  plan_free true false c d e f pa pb pc pd pe pf h = absurd (let q : ◌≡◌ {A = ℕ} 0 1 = cc in omega arith)
-  plan_free true true false d e f pa pb pc pd pe pf h = absurd (let q : ◌≡◌ {A = ℕ} 0 1 = cc in omega arith)
-  plan_free true true true false e f pa pb pc pd pe pf h = absurd (let q : ◌≡◌ {A = ℕ} 0 1 = cc in omega arith)
-  plan_free true true true true false f pa pb pc pd pe pf h = absurd (let q : ◌≡◌ {A = ℕ} 0 1 = cc in omega arith)
-  plan_free true true true true true false pa pb pc pd pe pf h = absurd (let q : ◌≡◌ {A = ℕ} 0 1 = cc in omega arith)
-  plan_free true true true true true true pa pb pc pd pe pf h = (pa, pb, pc, pd pc, pe, pf)
+  pub record Fitting : Type 0 where
+    pub names : true ≡ t2
+    pub liars : true ≡ t3
+    pub places : true ≡ t4
+    pub values : true ≡ t5
+    pub wire : true ≡ t6
+    pub space : true ≡ t7
+
+  pub plan_free : (a b c d e f : Bool) → Inspected a b c d e f → None ≡ by_order a b c d e f → Fitting
+  plan_free false b c d e f i h = absurd (let q : ◌≡◌ {A = ℕ} 0 1 = cc in omega arith)
+  plan_free true false c d e f i h = absurd (let q : ◌≡◌ {A = ℕ} 0 1 = cc in omega arith)
+  plan_free true true false d e f i h = absurd (let q : ◌≡◌ {A = ℕ} 0 1 = cc in omega arith)
+  plan_free true true true false e f i h = absurd (let q : ◌≡◌ {A = ℕ} 0 1 = cc in omega arith)
+  plan_free true true true true false f i h = absurd (let q : ◌≡◌ {A = ℕ} 0 1 = cc in omega arith)
+  plan_free true true true true true false i h = absurd (let q : ◌≡◌ {A = ℕ} 0 1 = cc in omega arith)
+  plan_free true true true true true true i h =
+      record { names = i.by_names; liars = i.by_count; places = i.by_places; values = i.by_values i.by_places; wire = i.by_wire; space = i.by_room }
+
+-- what the code's tests tell of the plan with these own values
+module _ {V : Type 0} (bytes : V → List ℕ) (own : List V) (n f word : ℕ) (k : Kind) (s : Ring) where
+  abbrev given : Plan
+  given = plan_of bytes n f word own
+
+  abbrev places_by : ℕ → Bool
+  places_by j = leb n j && (leb n s.records && leb (n * n) s.rows)
+
+  pub inspected : (a b c d e g : Bool) → a ≡ t2 k given s → b ≡ t3 k given s → c ≡ places_by (length own) → (n ≤ length own → d ≡ t5 k given s) → e ≡ t6 k given s → g ≡ t7 k given s →
+      Inspected k given s a b c d e g
+  inspected a b c d e g pa pb pc pd pe pg =
+      let l : length (map bytes own) ≡ length own = length-map own bytes in
+      record {
+        by_names = pa;
+        by_count = pb;
+        by_places = pc ∙ ap places_by (sym l);
+        by_values = λ h. pd (enough_parts n (length own) s.records (n * n) s.rows (h ∙ ap places_by l)).0;
+        by_wire = pe;
+        by_room = pg;
+      }

@@ -1,24 +1,21 @@
 // What set-up tests of a plan whose sizes are right, and in which order it refuses.
 ghost use Rattle.std.specs.Prelude.{◌≡◌, ◌*◌, ◌^◌, ◌≤◌, ◌&&◌, ◌||◌, map, length, ◌==◌, nat_le, nat_lt};
-ghost use Rattle.std.specs.Option.{option_map};
 ghost use Rattle.wires.specs.Wire.{room_left};
 ghost use Rattle.rules.specs.Counting.{count};
 ghost use Rattle.rules.specs.Bounds.{every};
 ghost use Rattle.agreement.specs.Calls.{named as is_named, own_of};
-ghost use Rattle.tables.specs.Refusals.{refusal_number};
-ghost use Rattle.setup.specs.Order.{by_order};
+ghost use Rattle.setup.specs.Order.{refusal_in, by_order};
 
 use crate::plan::{owns_in_order, places_enough};
-use rows::record::Record;
-use rows::row::Row;
 use tables::liars::{count_named, none_above};
 use tables::refusal::Refusal;
 use tables::ring::Ring;
-use tables::tables::rows_of_all;
+use tables::tables::{Tables, rows_of_all};
 use values::value::Value;
 use wires::wire::Wire;
 
-#[derive(Clone, Copy)]
+// The answers of the tests apart from the order of the refusals, so that each has a proof of its own.
+#[derive(Clone, Copy, PartialEq, Eq, Debug)]
 pub struct Inspection {
     // the word names no party above n
     pub named: bool,
@@ -36,28 +33,28 @@ pub struct Inspection {
 
 impl Inspection {
     // The first test that fails refuses.
-    pub fn refusal(&self) -> Option<Refusal>
-        ensures { option_map refusal_number result ≡ by_order self.now.named self.now.few self.now.places self.now.owns self.now.vacant self.now.roomy }
+    pub fn verdict(&self) -> Result<(), Refusal>
+        ensures { refusal_in result ≡ by_order self.now.named self.now.few self.now.places self.now.owns self.now.vacant self.now.roomy }
     {
         if !self.named {
-            return Some(Refusal::NoParty);
+            return Err(Refusal::NoParty);
         }
         if !self.few {
-            return Some(Refusal::Standing);
+            return Err(Refusal::Standing);
         }
         if !self.places {
-            return Some(Refusal::Tables);
+            return Err(Refusal::Tables);
         }
         if !self.owns {
-            return Some(Refusal::OwnValue);
+            return Err(Refusal::OwnValue);
         }
         if !self.vacant {
-            return Some(Refusal::WireInUse);
+            return Err(Refusal::WireInUse);
         }
         if !self.roomy {
-            return Some(Refusal::NoRoom);
+            return Err(Refusal::NoRoom);
         }
-        None
+        Ok(())
     }
 }
 
@@ -65,13 +62,12 @@ impl Inspection {
 pub fn inspect<V: Value, W: Wire<V>>(
     planned: &Ring,
     own: &[V],
-    records: &[Record<V>],
-    rows: &[Row<V>],
+    tables: &Tables<V>,
     wire: &W,
 ) -> Inspection
     ensures named { result.named ≡ nat_lt planned.now.faulty (2 ^ planned.now.n) }
     ensures few { result.few ≡ nat_le (count (is_named planned.now.faulty) planned.now.n) planned.now.f }
-    ensures places { result.places ≡ (nat_le planned.now.n (length own.now) && (nat_le planned.now.n (length records.now) && nat_le (planned.now.n * planned.now.n) (length rows.now))) }
+    ensures places { result.places ≡ (nat_le planned.now.n (length own.now) && (nat_le planned.now.n (length tables.now.records.now) && nat_le (planned.now.n * planned.now.n) (length tables.now.rows.now))) }
     ensures owns { planned.now.n ≤ length own.now → result.owns ≡ every (λ i. is_named planned.now.faulty i || V.allows (own_of (map V.bytes own.now) i)) planned.now.n }
     ensures vacant { result.vacant ≡ (length (W.waiting wire.now) == 0) }
     ensures roomy { result.roomy ≡ nat_le (planned.now.n * planned.now.n) (room_left (W.capacity wire.now) (W.waiting wire.now)) }
@@ -79,7 +75,7 @@ pub fn inspect<V: Value, W: Wire<V>>(
     Inspection {
         named: none_above(planned.faulty, planned.n),
         few: count_named(planned.faulty, planned.n) <= planned.f,
-        places: places_enough(planned, own, records, rows),
+        places: places_enough(planned, own, tables),
         owns: owns_in_order(planned, own),
         vacant: wire.count() == 0,
         roomy: rows_of_all(planned.n) <= wire.room(),

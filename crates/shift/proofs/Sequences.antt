@@ -1,34 +1,40 @@
 -- Calls one after the other.
-use Rattle.std.proofs.Common.{◌≡◌, ℕ, zero, suc, ◌+◌, ◌<◌, Bool, true, false, cond, not, List, [], ◌∷◌, ◌++◌, map, length, get_or, take, is_ok, Ok, Err, Result, sym, refl, ap, ◌∙◌, add-one, arith}
+use Rattle.std.proofs.Common.{◌≡◌, ℕ, zero, suc, ◌+◌, ◌<◌, Bool, true, false, cond, List, [], ◌∷◌, ◌++◌, map, length, get_or, take, is_err, Ok, Err, Result, sym, refl, ap, ◌∙◌, add-one, arith}
 use Rattle.agreement.specs.Ring.{Kind, Ring, tables_fit}
-use Rattle.agreement.specs.Calls.{Answer, Plan, set_up, Gives}
-use Rattle.agreement.specs.Runs.{Call, Shift, call, follow, run, begun, shift}
-use Rattle.agreement.proofs.Obeyed.{unfit}
+use Rattle.agreement.specs.Calls.{Answer, said, told, refused, Plan, set_up, Gives}
+use Rattle.agreement.specs.Runs.{Call, Shift, obey, call, follow, run, begun, shift}
+use Rattle.agreement.proofs.Obeyed.{unfit, obeyed}
 use Rattle.tables.specs.declared.refusal.Refusal.{Refusal}
 use Rattle.tables.specs.Meaning.{answer_of}
-use Rattle.ring.specs.declared.shown.Shown.{Shown}
-use Rattle.ring.specs.Meaning.{shown_answer}
-use Rattle.shift.specs.Meaning.{is_refused, refusals, end_of}
+use Rattle.shift.specs.Meaning.{briefly, is_refused, refusals, end_of}
 
--- ## An answer is a refusal exactly where the code's is
-pub accepted : (r : Result ℕ Refusal) (a : Answer) (b : Bool) → answer_of r ≡ a → b ≡ is_ok r → b ≡ not (is_refused a)
-accepted (Ok x) a b e h = h ∙ ap (λ y. not (is_refused y)) e
-accepted (Err x) a b e h = h ∙ ap (λ y. not (is_refused y)) e
+-- ## One call over tables that fit
+brief_same : (r : Result ℕ Refusal) → briefly (answer_of r) ≡ answer_of r
+brief_same (Ok x) = refl
+brief_same (Err x) = refl
 
-pub accepted-show : {V : Type 0} (bytes : V → List ℕ) (r : Result (Shown V) Refusal) (a : Answer) (b : Bool) → shown_answer bytes r ≡ a → b ≡ is_ok r → b ≡ not (is_refused a)
-accepted-show bytes (Ok x) a b e h = h ∙ ap (λ y. not (is_refused y)) e
-accepted-show bytes (Err x) a b e h = h ∙ ap (λ y. not (is_refused y)) e
+module _ (k : Kind) (s s' : Ring) (c d : Call) (e : c ≡ d) (fit : true ≡ tables_fit s) where
+  -- what a call comes to, whatever it tells
+  pub comes_to : (a : Answer) → Gives (obey k s d) a s' → (briefly a ≡ briefly (call k s c).answer) × (s' ≡ (call k s c).after)
+  comes_to a g =
+      let o = obeyed k s d a s' fit g in
+      (ap briefly (o.answer ∙ ap (λ c. (call k s c).answer) (sym e)), o.after ∙ ap (λ c. (call k s c).after) (sym e))
 
-module _ (k : Kind) (s s' : Ring) (c d : Call) (e : c ≡ d) where
-  pub arm_answer : (r : Result ℕ Refusal) (b : Bool) → Gives (call k s d) (answer_of r) s' → b ≡ is_ok r → b ≡ not (is_refused (call k s c).answer)
-  arm_answer r b g h = accepted r (call k s d).answer b g.answer h ∙ ap (λ c. not (is_refused (call k s c).answer)) (sym e)
+  pub answers : (r : Result ℕ Refusal) → Gives (obey k s d) (answer_of r) s' → (answer_of r ≡ briefly (call k s c).answer) × (s' ≡ (call k s c).after)
+  answers r g = let o = comes_to (answer_of r) g in (sym (brief_same r) ∙ o.0, o.1)
 
-  pub show-answer : {V : Type 0} (bytes : V → List ℕ) (r : Result (Shown V) Refusal) (b : Bool) → Gives (call k s d) (shown_answer bytes r) s' → b ≡ is_ok r →
-      b ≡ not (is_refused (call k s c).answer)
-  show-answer bytes r b g h = accepted-show bytes r (call k s d).answer b g.answer h ∙ ap (λ c. not (is_refused (call k s c).answer)) (sym e)
+-- a call is refused exactly where the code's answer is an error
+err_refused : (r : Result ℕ Refusal) → is_err r ≡ is_refused (answer_of r)
+err_refused (Ok x) = refl
+err_refused (Err x) = refl
 
-  pub arm_after : (a : Answer) → Gives (call k s d) a s' → s' ≡ (call k s c).after
-  arm_after a g = g.after ∙ ap (λ c. (call k s c).after) (sym e)
+brief_refused : (a : Answer) → is_refused (briefly a) ≡ is_refused a
+brief_refused (said x) = refl
+brief_refused (told x) = refl
+brief_refused (refused x) = refl
+
+pub refused_so : (r : Result ℕ Refusal) (a : Answer) → answer_of r ≡ briefly a → is_err r ≡ is_refused a
+refused_so r a e = err_refused r ∙ (ap is_refused e ∙ brief_refused a)
 
 -- ## One call more
 take_next : {X Y : Type 0} (f : X → Y) (xs : List X) (i : ℕ) (x : X) → i < length xs → x ≡ get_or xs i x → take (suc i) (map f xs) ≡ take i (map f xs) ++ (f x ∷ [])
@@ -64,24 +70,14 @@ module _ (k : Kind) where
     end_next t s' inv q =
         q ∙ (ap (λ t. (call k t (f x)).after) inv ∙ (sym (end_more s (take i (map f xs)) (f x)) ∙ ap (end_of k s) (sym next)))
 
-    flip : (a : Bool) → false ≡ not a → a ≡ true
-    flip true e = refl
-    flip false e = e
-
-    flop : (a : Bool) → true ≡ not a → a ≡ false
-    flop true e = e
-    flop false e = refl
-
-    pub count_next : (t : Ring) (m m' : ℕ) → t ≡ end_of k s (take i (map f xs)) → m ≡ refusals k s (take i (map f xs)) → false ≡ not (is_refused (call k t (f x)).answer) → m' ≡ m + 1 →
+    pub count_next : (t : Ring) (m m' : ℕ) → t ≡ end_of k s (take i (map f xs)) → m ≡ refusals k s (take i (map f xs)) → is_refused (call k t (f x)).answer ≡ true → m' ≡ m + 1 →
         m' ≡ refusals k s (take (i + 1) (map f xs))
-    count_next t m m' inv c b q =
-        let y = flip (is_refused (call k t (f x)).answer) b in
+    count_next t m m' inv c y q =
         q ∙ (add-one m ∙ (ap suc c ∙ (sym (refusals_yes s (take i (map f xs)) (f x) (ap (λ t. is_refused (call k t (f x)).answer) (sym inv) ∙ y)) ∙ ap (refusals k s) (sym next))))
 
-    pub count_kept : (t : Ring) (m m' : ℕ) → t ≡ end_of k s (take i (map f xs)) → m ≡ refusals k s (take i (map f xs)) → true ≡ not (is_refused (call k t (f x)).answer) → m' ≡ m →
+    pub count_kept : (t : Ring) (m m' : ℕ) → t ≡ end_of k s (take i (map f xs)) → m ≡ refusals k s (take i (map f xs)) → is_refused (call k t (f x)).answer ≡ false → m' ≡ m →
         m' ≡ refusals k s (take (i + 1) (map f xs))
-    count_kept t m m' inv c b q =
-        let y = flop (is_refused (call k t (f x)).answer) b in
+    count_kept t m m' inv c y q =
         q ∙ (c ∙ (sym (refusals_no s (take i (map f xs)) (f x) (ap (λ t. is_refused (call k t (f x)).answer) (sym inv) ∙ y)) ∙ ap (refusals k s) (sym next)))
 
   -- the ring of a run

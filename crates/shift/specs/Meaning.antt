@@ -18,6 +18,12 @@ call_of bytes (Send m) = send (message bytes m)
 call_of bytes (Timer party) = timer party
 call_of bytes (Show party) = show party
 
+-- an answer without what show tells: then 0
+abbrev pub briefly : Answer → Answer
+briefly (said posts) = said posts
+briefly (told shown) = said 0
+briefly (refused number) = refused number
+
 abbrev pub is_refused : Answer → Bool
 is_refused (said posts) = false
 is_refused (told shown) = false

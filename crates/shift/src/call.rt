@@ -1,4 +1,4 @@
-// A call of a shift.
+// A call of a shift, for any kind of value; a call of a run sheet has numbers of any size, no send and no show.
 use messages::message::Message;
 
 #[derive(Clone, Copy)]

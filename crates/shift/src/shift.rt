@@ -2,18 +2,17 @@
 ghost use Rattle.std.specs.Prelude.{◌≡◌, map, MatchResult};
 ghost use Rattle.agreement.specs.Calls.{refused, set_up};
 ghost use Rattle.tables.specs.Refusals.{refusal_number};
-ghost use Rattle.tables.specs.Meaning.{ring_at, ring_of};
+ghost use Rattle.tables.specs.Meaning.{ring_in};
 ghost use Rattle.turns.specs.Meaning.{kind_of};
-ghost use Rattle.setup.specs.Meaning.{plan_of};
+ghost use Rattle.setup.specs.Meaning.{plan_in, ring_cut, SamePlaces};
 ghost use Rattle.shift.specs.Meaning.{call_of, Ran};
 
 use crate::call::Call;
 use crate::obeying::obey_all;
-use rows::record::Record;
-use rows::row::Row;
+use setup::plan::Plan;
 use setup::setup::set_up;
 use tables::refusal::Refusal;
-use tables::ring::Ring;
+use tables::tables::Tables;
 use values::value::Value;
 use wires::wire::Wire;
 
@@ -22,22 +21,16 @@ use wires::wire::Wire;
 // nobody left undecided once the honest messages are through; nothing said twice.
 // Where set-up is refused, nothing is touched.
 pub fn run_shift<V: Value, W: Wire<V>>(
-    ring: &mut Ring,
-    n: u64,
-    f: u64,
-    faulty: u64,
-    own: &[V],
-    records: &mut [Record<V>],
-    rows: &mut [Row<V>],
+    plan: &Plan<V>,
+    tables: &mut Tables<V>,
     wire: &mut W,
     calls: &[Call<V>],
 ) -> Result<usize, Refusal>
-    ensures { MatchResult result
-        (λ number. Ran (kind_of V.width V.valid V.allows) (plan_of V.bytes n f faulty own.now) (ring_at V.bytes n ring.old records.old rows.old (W.waiting wire.old) (W.capacity wire.old)) (map (call_of V.bytes) calls.now) number (ring_of V.bytes ring.new records.new rows.new (W.waiting wire.new) (W.capacity wire.new)))
-        (λ e. ((set_up (kind_of V.width V.valid V.allows) (plan_of V.bytes n f faulty own.now) (ring_at V.bytes n ring.old records.old rows.old (W.waiting wire.old) (W.capacity wire.old))).answer ≡ refused (refusal_number e)) × (ring.new ≡ ring.old) × (records.new ≡ records.old) × (rows.new ≡ rows.old) × (W.waiting wire.new ≡ W.waiting wire.old) × (W.capacity wire.new ≡ W.capacity wire.old)) }
+    ensures lent { SamePlaces tables.old tables.new }
+    ensures run { MatchResult result
+        (λ number. Ran (kind_of V.width V.valid V.allows) (plan_in V.bytes plan.now) (ring_cut V.bytes plan.now.n tables.old (W.waiting wire.old) (W.capacity wire.old)) (map (call_of V.bytes) calls.now) number (ring_in V.bytes tables.new (W.waiting wire.new) (W.capacity wire.new)))
+        (λ e. ((set_up (kind_of V.width V.valid V.allows) (plan_in V.bytes plan.now) (ring_cut V.bytes plan.now.n tables.old (W.waiting wire.old) (W.capacity wire.old))).answer ≡ refused (refusal_number e)) × (tables.new.ring ≡ tables.old.ring) × (tables.new.records.now ≡ tables.old.records.now) × (tables.new.rows.now ≡ tables.old.rows.now) × (W.waiting wire.new ≡ W.waiting wire.old) × (W.capacity wire.new ≡ W.capacity wire.old)) }
 {
-    match set_up(ring, n, f, faulty, own, records, rows, wire) {
-        Ok(_) => Ok(obey_all(ring, records, rows, wire, calls)),
-        Err(refusal) => Err(refusal),
-    }
+    set_up(plan, tables, wire)?;
+    Ok(obey_all(tables, wire, calls))
 }

@@ -1,5 +1,6 @@
 -- A test that every party passes, party by party.
-use Rattle.std.proofs.Common.{◌≡◌, ℕ, zero, suc, ◌+◌, ◌<◌, ◌≤◌, Bool, true, false, cond, eqb, sym, refl, ap, ◌∙◌, inl, inr, add-one, arith}
+use Rattle.std.proofs.Common.{◌≡◌, ℕ, zero, suc, ◌+◌, ◌<◌, ◌≤◌, ◌-◌, Bool, true, false, ◌&&◌, cond, eqb, List, [], ◌∷◌, length, get_or, sym, refl, ap, ◌∙◌, inl, inr, add-one, arith}
+use Rattle.std.specs.List.{list_all}
 use Rattle.std.proofs.lemmas.Bool.{and_from, and_parts, and_left, and_right, cases_eq}
 use Rattle.rules.specs.Bounds.{every}
 use Rattle.rules.specs.Counting.{upd}
@@ -17,10 +18,40 @@ every_not t (suc n) i l e =
       | inr q ↦ and_right (t (suc n)) (every t n) (every_not t n i (let z : i < n = omega (arith, q) in z) e)
     ]
 
--- where all pass
-pub every_all : (t : ℕ → Bool) (n : ℕ) → ((j : ℕ) → t j ≡ true) → every t n ≡ true
-every_all t zero h = refl
-every_all t (suc n) h = and_from (t (suc n)) (every t n) (h (suc n)) (every_all t n h)
+-- the same by the party's own number, counted from 1
+pub every_up : (t : ℕ → Bool) (p : ℕ) → 1 ≤ p → every t (p - 1) ≡ true → t p ≡ true → every t p ≡ true
+every_up t p low h e =
+    let k : p - 1 + 1 ≡ p = omega arith in
+    ap (every t) (sym k) ∙ every_more t (p - 1) h (ap t k ∙ e)
+
+pub every_next : (t : ℕ → Bool) (p : ℕ) → 1 ≤ p → every t (p - 1) ≡ true → t p ≡ true → every t ((p + 1) - 1) ≡ true
+every_next t p low h e =
+    let n : p ≡ (p + 1) - 1 = omega arith in
+    ap (every t) (sym n) ∙ every_up t p low h e
+
+pub every_fails : (t : ℕ → Bool) (n p : ℕ) → 1 ≤ p → p ≤ n → t p ≡ false → every t n ≡ false
+every_fails t n p low high e =
+    let k : p - 1 + 1 ≡ p = omega arith in
+    every_not t n (p - 1) (omega arith) (ap t k ∙ e)
+
+-- the first one apart
+either_order : (a b c : Bool) → (a && (b && c)) ≡ (b && (a && c))
+either_order true true c = refl
+either_order true false c = refl
+either_order false true c = refl
+either_order false false c = refl
+
+every_front : (t : ℕ → Bool) (n : ℕ) → every t (suc n) ≡ (t 1 && every (λ j. t (suc j)) n)
+every_front t zero = refl
+every_front t (suc n) = ap (λ b. t (suc (suc n)) && b) (every_front t n) ∙ either_order (t (suc (suc n))) (t 1) (every (λ j. t (suc j)) n)
+
+-- every element of a list, each by its place
+pub every_listed : {X : Type 0} (p : X → Bool) (xs : List X) (t : ℕ → Bool) → ((i : ℕ) (d : X) → i < length xs → t (i + 1) ≡ p (get_or xs i d)) → list_all p xs ≡ every t (length xs)
+every_listed p [] t h = refl
+every_listed p (x ∷ xs) t h =
+    let first : t 1 ≡ p x = h 0 x (omega arith) in
+    let others : list_all p xs ≡ every (λ j. t (suc j)) (length xs) = every_listed p xs (λ j. t (suc j)) (λ i d l. let k : suc i + 1 ≡ suc (i + 1) = omega arith in ap t (sym k) ∙ h (suc i) d (omega arith)) in
+    ap (λ b. b && list_all p xs) (sym first) ∙ (ap (λ b. t 1 && b) others ∙ sym (every_front t (length xs)))
 
 -- where every one passes, one of them does
 pub every_one : (t : ℕ → Bool) (n i : ℕ) → 1 ≤ i → i ≤ n → every t n ≡ true → t i ≡ true

@@ -1,5 +1,5 @@
 -- What a ring with its tables and its wire means.
-use Rattle.std.specs.Prelude.{ℕ, zero, suc, ◌*◌, List, [], map, length, take, drop, Ok, Err, Result, slice_index_or}
+use Rattle.std.specs.Prelude.{◌≡◌, ℕ, zero, suc, ◌*◌, List, [], map, length, take, drop, Ok, Err, Result, slice_index_or}
 use Rattle.messages.specs.Messages.{Msg}
 use Rattle.rules.specs.Party as model
 use Rattle.rules.specs.Step.{newcomer}
@@ -9,6 +9,7 @@ use Rattle.rows.specs.declared.row.Row.{Row}
 use Rattle.agreement.specs.Ring as agreement
 use Rattle.agreement.specs.Calls.{Answer, said, refused, named}
 use Rattle.tables.specs.declared.ring.Ring.{Ring}
+use Rattle.tables.specs.declared.tables.Tables.{Tables}
 use Rattle.tables.specs.declared.refusal.Refusal.{Refusal}
 use Rattle.tables.specs.Refusals.{refusal_number}
 
@@ -62,6 +63,14 @@ module _ {V : Type 0} (bytes : V → List ℕ) where
   -- a ring that is set up cuts the rows by its own size
   abbrev pub ring_of : Ring → List (Record V) → List (Row V) → List Msg → ℕ → agreement.Ring
   ring_of ring records rows wire capacity = ring_at ring.n ring records rows wire capacity
+
+  -- the ring over the tables that it is lent, and a wire
+  abbrev pub ring_in : Tables V → List Msg → ℕ → agreement.Ring
+  ring_in tables wire capacity = ring_of tables.ring tables.records.now tables.rows.now wire capacity
+
+-- the same ring over the same tables
+abbrev pub SameTables : {V : Type 0} → Tables V → Tables V → Type 0
+SameTables t u = (u.ring ≡ t.ring) × ((u.records.ghost_name ≡ t.records.ghost_name) × (u.rows.ghost_name ≡ t.rows.ghost_name))
 
 -- what a test lets through, by its meaning, or the number of the refusal
 abbrev pub result_of : {A B : Type 0} → (A → B) → Result A Refusal → Result B ℕ

@@ -2,36 +2,20 @@
 // refused, so that a step never meets one.
 ghost use Rattle.std.specs.Prelude.{◌≡◌, ℕ};
 ghost use Rattle.messages.specs.Messages.{previous_fits};
-ghost use Rattle.rules.specs.Tests.{below};
-ghost use Rattle.rules.specs.Bounds.{suggest_fits, proof_fits, stored_suggest_fits, stored_proof_fits, offer_fits, fields_fit, previous_below, record_fits, row_fits};
-ghost use Rattle.std.specs.Option.{option_map};
-ghost use Rattle.rows.specs.Meaning.{keyed_of, suggest_of, proof_of, record_of, row_of};
+ghost use Rattle.rules.specs.Bounds.{suggest_fits, proof_fits, fields_fit, previous_below, record_fits, row_fits};
+ghost use Rattle.rows.specs.Meaning.{suggest_of, proof_of, record_of, row_of};
 
-use rows::keys::{Keyed, Proof, Suggest};
+use messages::range::LAST_VIEW;
+use rows::keys::{Proof, Suggest, below_key};
 use rows::record::Record;
 use rows::row::Row;
 use values::value::Value;
-
-const LAST_VIEW: u32 = 2_000_000_000;
 
 // A previous key as a message may carry it.
 fn previous_in_range(previous: Option<u32>) -> bool
     ensures { result ≡ previous_fits previous }
 {
-    match previous {
-        Some(p) => p <= LAST_VIEW,
-        None => true,
-    }
-}
-
-// Whether a previous key is below its key.
-fn is_below(previous: Option<u32>, key: u32) -> bool
-    ensures { result ≡ below previous key }
-{
-    match previous {
-        Some(p) => p < key,
-        None => true,
-    }
+    previous.is_none_or(|p| p <= LAST_VIEW)
 }
 
 fn suggest_in_range<V: Value>(s: &Suggest<V>) -> bool
@@ -46,33 +30,6 @@ fn proof_in_range<V: Value>(p: &Proof<V>) -> bool
     p.key1.at <= LAST_VIEW && previous_in_range(p.previous)
 }
 
-fn stored_suggest_in_range<V: Value>(s: &Option<Suggest<V>>) -> bool
-    ensures { result ≡ stored_suggest_fits (option_map (suggest_of V.bytes) s.now) }
-{
-    match s {
-        Some(s) => suggest_in_range(s),
-        None => true,
-    }
-}
-
-fn stored_proof_in_range<V: Value>(p: &Option<Proof<V>>) -> bool
-    ensures { result ≡ stored_proof_fits (option_map (proof_of V.bytes) p.now) }
-{
-    match p {
-        Some(p) => proof_in_range(p),
-        None => true,
-    }
-}
-
-fn offer_in_range<V: Value>(offer: &Option<Keyed<V>>) -> bool
-    ensures { result ≡ offer_fits (option_map (keyed_of V.bytes) offer.now) }
-{
-    match offer {
-        Some(k) => k.at <= LAST_VIEW,
-        None => true,
-    }
-}
-
 fn fields_in_bounds<V: Value>(r: &Record<V>) -> bool
     ensures { result ≡ fields_fit (record_of V.bytes r.now) }
 {
@@ -82,7 +39,7 @@ fn fields_in_bounds<V: Value>(r: &Record<V>) -> bool
 fn previous_in_bounds<V: Value>(r: &Record<V>) -> bool
     ensures { result ≡ previous_below (record_of V.bytes r.now) }
 {
-    is_below(r.previous_key1, r.key1.at) && is_below(r.previous_key2, r.key2.at)
+    below_key(r.previous_key1, r.key1.at) && below_key(r.previous_key2, r.key2.at)
 }
 
 // Whether every number of a record lies within its bounds.
@@ -95,7 +52,7 @@ pub fn record_in_bounds<V: Value>(r: &Record<V>) -> bool
         && previous_in_bounds(r)
         && suggest_in_range(&r.suggest)
         && proof_in_range(&r.proof)
-        && offer_in_range(&r.offer)
+        && r.offer.as_ref().is_none_or(|k| k.at <= LAST_VIEW)
 }
 
 // Whether every number of a row lies within its bounds.
@@ -104,6 +61,6 @@ pub fn row_in_bounds<V: Value>(row: &Row<V>) -> bool
 {
     row.request <= LAST_VIEW
         && row.abort <= LAST_VIEW - 1
-        && stored_suggest_in_range(&row.suggest)
-        && stored_proof_in_range(&row.proof)
+        && row.suggest.as_ref().is_none_or(suggest_in_range)
+        && row.proof.as_ref().is_none_or(proof_in_range)
 }

@@ -1,10 +1,10 @@
-// The lent tables: records by party, rows by party and then by sender.
+// The lent tables of a ring: records by party, rows by party and then by sender.
 ghost use Rattle.std.specs.Prelude.{◌≡◌, ℕ, ◌+◌, ◌*◌, ◌<◌, ◌≤◌, ◌||◌, [], length};
 ghost use Rattle.rules.specs.Bounds.{party_fits, every, row_fits};
 ghost use Rattle.rows.specs.Meaning.{record_of, rows_of, party_of};
 ghost use Rattle.agreement.specs.Ring.{tables_fit};
 ghost use Rattle.agreement.specs.Calls.{named};
-ghost use Rattle.tables.specs.Meaning.{parties_of, ring_of};
+ghost use Rattle.tables.specs.Meaning.{parties_of, ring_in};
 
 use crate::bounds::{record_in_bounds, row_in_bounds};
 use crate::liars::is_named;
@@ -13,7 +13,30 @@ use rows::record::Record;
 use rows::row::Row;
 use values::value::Value;
 
-// Where the rows of the party at this index begin.
+// A ring over the tables that it is lent.
+#[derive(Drop)]
+pub struct Tables<'a, 'b, V> {
+    pub ring: Ring,
+    pub records: &'a mut [Record<V>],
+    pub rows: &'b mut [Row<V>],
+}
+
+impl<'a, 'b, V> Tables<'a, 'b, V> {
+    // The tables of a ring before set-up.
+    pub fn new(records: &'a mut [Record<V>], rows: &'b mut [Row<V>]) -> Tables<'a, 'b, V>
+        ensures ring { (result.ring.n ≡ 0) × (result.ring.f ≡ 0) × (result.ring.faulty ≡ 0) }
+        ensures lent { (result.records.ghost_name ≡ records.entry.ghost_name) × (result.rows.ghost_name ≡ rows.entry.ghost_name) }
+        ensures same { (result.records.now ≡ records.old) × (result.rows.now ≡ rows.old) }
+    {
+        Tables {
+            ring: Ring::new(),
+            records,
+            rows,
+        }
+    }
+}
+
+// Where the rows of the party at this index begin: cut by hand, since a part is lent by its bounds.
 pub fn base_of(n: u8, index: u8) -> usize
     requires { (index < n) × (n ≤ 64) }
     ensures value { result ≡ index * n }
@@ -26,12 +49,7 @@ pub fn base_of(n: u8, index: u8) -> usize
 pub fn rows_in_bounds<V: Value>(rows: &[Row<V>]) -> bool
     ensures { result ≡ every (λ j. row_fits (rows_of V.bytes rows.now j)) (length rows.now) }
 {
-    for row in rows {
-        if !row_in_bounds(row) {
-            return false;
-        }
-    }
-    true
+    rows.iter().all(row_in_bounds)
 }
 
 // Whether all that a party keeps lies within its bounds.
@@ -42,14 +60,17 @@ pub fn party_in_bounds<V: Value>(mine: &Record<V>, rows: &[Row<V>]) -> bool
 }
 
 // Whether the party lies within its bounds; nothing is asked of a faulty one.
-fn party_in_order<V: Value>(ring: &Ring, records: &[Record<V>], rows: &[Row<V>], party: u8) -> bool
-    requires places { (ring.now.n ≤ length records.now) × (ring.now.n * ring.now.n ≤ length rows.now) }
-    requires seated { (1 ≤ party) × (party ≤ ring.now.n) }
-    ensures { result ≡ (named ring.now.faulty party || party_fits ring.now.n (parties_of V.bytes ring.now.n records.now rows.now party)) }
+fn party_in_order<V: Value>(tables: &Tables<V>, party: u8) -> bool
+    requires places { (tables.now.ring.n ≤ length tables.now.records.now) × (tables.now.ring.n * tables.now.ring.n ≤ length tables.now.rows.now) }
+    requires seated { (1 ≤ party) × (party ≤ tables.now.ring.n) }
+    ensures { result ≡ (named tables.now.ring.faulty party || party_fits tables.now.ring.n (parties_of V.bytes tables.now.ring.n tables.now.records.now tables.now.rows.now party)) }
 {
+    let ring = tables.ring;
     if is_named(ring.faulty, party) {
         return true;
     }
+    let records = &*tables.records;
+    let rows = &*tables.rows;
     let base = base_of(ring.n, party - 1);
     party_in_bounds(
         &records[party as usize - 1],
@@ -57,13 +78,14 @@ fn party_in_order<V: Value>(ring: &Ring, records: &[Record<V>], rows: &[Row<V>],
     )
 }
 
+// A loop and not `all`: a closure would not have the bounds of the number that the test of one party needs.
 // Whether every honest party lies within its bounds.
-fn parties_in_order<V: Value>(ring: &Ring, records: &[Record<V>], rows: &[Row<V>]) -> bool
-    requires { (ring.now.n ≤ length records.now) × (ring.now.n * ring.now.n ≤ length rows.now) }
-    ensures { result ≡ every (λ i. named ring.now.faulty i || party_fits ring.now.n (parties_of V.bytes ring.now.n records.now rows.now i)) ring.now.n }
+fn parties_in_order<V: Value>(tables: &Tables<V>) -> bool
+    requires { (tables.now.ring.n ≤ length tables.now.records.now) × (tables.now.ring.n * tables.now.ring.n ≤ length tables.now.rows.now) }
+    ensures { result ≡ every (λ i. named tables.now.ring.faulty i || party_fits tables.now.ring.n (parties_of V.bytes tables.now.ring.n tables.now.records.now tables.now.rows.now i)) tables.now.ring.n }
 {
-    for i in 0..ring.n {
-        if !party_in_order(ring, records, rows, i + 1) {
+    for party in 1..=tables.ring.n {
+        if !party_in_order(tables, party) {
             return false;
         }
     }
@@ -77,15 +99,13 @@ pub fn rows_of_all(n: u8) -> usize
     n as usize * n as usize
 }
 
+// A Boolean, since a whole shift answers a number where it does not hold, and the calls a refusal.
 // Whether the tables have places for all parties, and every honest party lies within its bounds.
-pub fn tables_in_order<V: Value>(ring: &Ring, records: &[Record<V>], rows: &[Row<V>]) -> bool
-    ensures { result ≡ tables_fit (ring_of V.bytes ring.now records.now rows.now [] 0) }
+// What it tells stays a clause: in a struct that keeps it, the second of two parts lent at once was not proved to lie in memory.
+pub fn tables_in_order<V: Value>(tables: &Tables<V>) -> bool
+    ensures { result ≡ tables_fit (ring_in V.bytes tables.now [] 0) }
 {
-    if records.len() < ring.n as usize {
-        return false;
-    }
-    if rows.len() < rows_of_all(ring.n) {
-        return false;
-    }
-    parties_in_order(ring, records, rows)
+    tables.records.len() >= tables.ring.n as usize
+        && tables.rows.len() >= rows_of_all(tables.ring.n)
+        && parties_in_order(tables)
 }

@@ -1,42 +1,26 @@
 -- A party's turn, as the tables and the wire show it.
-use Rattle.std.proofs.Common.{◌≡◌, ℕ, ◌+◌, ◌-◌, ◌*◌, ◌<◌, ◌≤◌, true, List, ◌++◌, length, get_or, take, drop, set, sym, ap, ◌∙◌, subst, arith}
+use Rattle.std.proofs.Common.{◌≡◌, ℕ, ◌+◌, ◌-◌, ◌*◌, ◌≤◌, ◌<◌, Bool, true, false, List, [], ◌++◌, length, get_or, take, drop, set, sym, ap, ◌∙◌, subst, arith}
 use borrow.Rule.Slice.PartMut.{put_mid}
-use Rattle.std.proofs.lemmas.List.{length-append, length-take-le, length-drop}
-use Rattle.messages.specs.Messages.{Msg}
+use Rattle.std.proofs.lemmas.List.{length-append, length-set, length-take-le, length-drop}
+use Rattle.messages.specs.Messages.{Msg, last_view}
 use Rattle.rules.specs.Counting.{upd}
-use Rattle.rules.specs.Party.{Party, Step}
-use Rattle.messages.specs.Messages.{last_view}
+use Rattle.rules.specs.Party as model
 use Rattle.rules.specs.Bounds.{party_fits}
-use Rattle.rows.specs.Meaning.{party_of}
+use Rattle.rows.specs.Meaning.{setting_of, party_of}
 use Rattle.rows.specs.declared.record.Record.{Record}
 use Rattle.rows.specs.declared.row.Row.{Row}
+use Rattle.rows.specs.declared.seat.Seat.{Seat}
 use Rattle.posting.specs.Posting.{Does}
-use Rattle.tables.specs.Meaning.{parties_of}
+use Rattle.tables.specs.Meaning.{parties_of, ring_with, ring_of}
+use Rattle.tables.specs.declared.ring.Ring.{Ring}
+use Rattle.tables.proofs.Fitting.{one_fits, turn_fits}
 use Rattle.tables.proofs.Parts.{party_read, party-written, part_length}
-use Rattle.agreement.specs.Ring.{Ring}
-use Rattle.agreement.specs.Calls.{said, stepped, Gives}
-
-module _ (s : Ring) where
-  abbrev pub changed : (ℕ → Party) → ℕ → ℕ → List Msg → ℕ → Ring
-  changed parties records rows wire capacity =
-      record { n = s.n; f = s.f; faulty = s.faulty; parties = parties; records = records; rows = rows; wire = wire; capacity = capacity }
-
-  changed_same : (p q : ℕ → Party) (a b c d : ℕ) (v w : List Msg) (x y : ℕ) → p ≡ q → a ≡ b → c ≡ d → v ≡ w → x ≡ y → changed p a c v x ≡ changed q b d w y
-  changed_same p q a b c d v w x y e1 e2 e3 e4 e5 =
-      ap (λ z. changed z a c v x) e1 ∙ (ap (λ z. changed q z c v x) e2 ∙ (ap (λ z. changed q b z v x) e3 ∙ (ap (λ z. changed q b d z x) e4 ∙ ap (λ z. changed q b d w z) e5)))
-
-  pub turned : (i : ℕ) (t t' : Step) (p : Party) (parties : ℕ → Party) (records rows : ℕ) (w : List Msg) (c r : ℕ) →
-      Does t' p s.wire w s.capacity c r → t ≡ t' → parties ≡ upd s.parties i p → records ≡ s.records → rows ≡ s.rows →
-      Gives (stepped s i s.wire t) (said r) (changed parties records rows w c)
-  turned i t t' p parties records rows w c r d e h a b =
-      record {
-        answer = ap said (d.posts.answer ∙ ap (λ x. length x.posts) (sym e));
-        after = changed_same parties (upd s.parties i t.after) records s.records rows s.rows w (s.wire ++ t.posts) c s.capacity
-            (h ∙ ap (upd s.parties i) (d.party ∙ ap (λ x. x.after) (sym e))) a b (d.posts.list ∙ ap (λ x. s.wire ++ x.posts) (sym e)) d.posts.kept;
-      }
+use Rattle.agreement.specs.Ring.{tables_fit}
+use Rattle.agreement.specs.Calls.{said, named, stepped, Gives}
+use Rattle.turns.specs.Meaning.{setting_in}
 
 -- a part written leaves the length
-pub part-kept : {X : Type 0} (b n : ℕ) (xs new : List X) → length new ≡ n → b + n ≤ length xs → length (put_mid b ((b + n) - b) xs new) ≡ length xs
+part-kept : {X : Type 0} (b n : ℕ) (xs new : List X) → length new ≡ n → b + n ≤ length xs → length (put_mid b ((b + n) - b) xs new) ≡ length xs
 part-kept b n xs new e h =
     let k : (b + n) - b ≡ n = omega arith in
     let l1 = length-append (take b xs) (new ++ drop ((b + n) - b) (drop b xs)) in
@@ -46,28 +30,73 @@ part-kept b n xs new e h =
     let l5 = length-drop b xs in
     omega (arith, k, l1, l2, l3, l4, l5, e, h)
 
--- ## A party's own part of the tables
-module _ {V : Type 0} (bytes : V → List ℕ) (n party b : ℕ) (records : List (Record V)) (rows : List (Row V)) (d : Record V)
-    (low : 1 ≤ party) (high : party ≤ n) (many : n ≤ length records) (wide : n * n ≤ length rows) (is : d ≡ get_or records (party - 1) d)
-    (value : b ≡ (party - 1) * n) (within : b + n ≤ n * n) where
-  abbrev own-part : List (Row V)
-  own-part = take ((b + n) - b) (drop b rows)
+same_ring : (s : Ring) (p q : ℕ → model.Party) (a b c d : ℕ) (v w : List Msg) (x y : ℕ) → p ≡ q → a ≡ b → c ≡ d → v ≡ w → x ≡ y → ring_with s p a c v x ≡ ring_with s q b d w y
+same_ring s p q a b c d v w x y e1 e2 e3 e4 e5 =
+    ap (λ z. ring_with s z a c v x) e1 ∙ (ap (λ z. ring_with s q z c v x) e2 ∙ (ap (λ z. ring_with s q b z v x) e3 ∙ (ap (λ z. ring_with s q b d z x) e4 ∙ ap (ring_with s q b d w) e5)))
 
-  abbrev mine : Party
-  mine = party_of bytes (get_or records (party - 1) d) own-part
+-- a party's seat and its own part of the tables: its record at its place, and its rows from b on
+pub record Own {V : Type 0} (s : Ring) (party b : ℕ) (records : List (Record V)) (rows : List (Row V)) (own : Record V) (seat : Seat) : Type 0 where
+  pub stands : (seat.n ≡ s.n) × (seat.f ≡ s.f) × (seat.me ≡ party)
+  pub seated : (1 ≤ party) × (party ≤ s.n)
+  pub places : (s.n ≤ length records) × (s.n * s.n ≤ length rows)
+  pub is : own ≡ get_or records (party - 1) own
+  pub value : b ≡ (party - 1) * s.n
+  pub within : b + s.n ≤ s.n * s.n
 
-  pub part_whole : length own-part ≡ n
-  part_whole = part_length b n rows (omega (arith, within, wide))
+-- the rows from b on, and what the party keeps
+abbrev pub own-rows : {V : Type 0} → Ring → ℕ → List (Row V) → List (Row V)
+own-rows s b rows = take ((b + s.n) - b) (drop b rows)
 
-  pub part_read : parties_of bytes n records rows party ≡ mine
-  part_read = party_read bytes n party b records rows (get_or records (party - 1) d) low (omega (arith, high, many)) (ap (λ x. get_or records (party - 1) x) is) value
+abbrev pub kept : {V : Type 0} → (V → List ℕ) → Ring → ℕ → ℕ → List (Record V) → List (Row V) → Record V → model.Party
+kept bytes s party b records rows own = party_of bytes (get_or records (party - 1) own) (own-rows s b rows)
 
-  pub part-written : (r : Record V) (new : List (Row V)) → length new ≡ length own-part →
-      parties_of bytes n (set records (party - 1) r) (put_mid b ((b + n) - b) rows new) ≡ upd (parties_of bytes n records rows) party (party_of bytes r new)
-  part-written r new e = party-written bytes n party b records rows r new low high many wide value (e ∙ part_whole)
+module _ {V : Type 0} (bytes : V → List ℕ) {s : Ring} {party b : ℕ} {records : List (Record V)} {rows : List (Row V)} {own : Record V} {seat : Seat} (o : Own s party b records rows own seat) where
+  pub whole : length (own-rows s b rows) ≡ s.n
+  whole = part_length b s.n rows (omega (arith, o.within, o.places.1))
 
-  pub part_fits : party_fits n (parties_of bytes n records rows party) ≡ true → party_fits n mine ≡ true
-  part_fits fit = ap (party_fits n) (sym part_read) ∙ fit
+  read : parties_of bytes s.n records rows party ≡ kept bytes s party b records rows own
+  read = party_read bytes s.n party b records rows (get_or records (party - 1) own) o.seated.0 (omega (arith, o.seated.1, o.places.0)) (ap (λ x. get_or records (party - 1) x) o.is) o.value
 
-  pub part_early : (parties_of bytes n records rows party).rec.view < last_view → mine.rec.view < last_view
-  part_early early = subst (λ p. p.rec.view < last_view) part_read early
+  -- an honest one lies within its bounds
+  pub fits : true ≡ tables_fit (ring_of bytes s records rows [] 0) → false ≡ named s.faulty party → party_fits seat.n (kept bytes s party b records rows own) ≡ true
+  fits fit honest = ap (λ n. party_fits n (kept bytes s party b records rows own)) o.stands.0 ∙ (ap (party_fits s.n) (sym read) ∙ one_fits (ring_of bytes s records rows [] 0) fit party o.seated.0 o.seated.1 honest)
+
+  pub early : (parties_of bytes s.n records rows party).rec.view < last_view → (kept bytes s party b records rows own).rec.view < last_view
+  early h = subst (λ p. p.rec.view < last_view) read h
+
+  module _ (r : Record V) (new : List (Row V)) (same : length new ≡ length (own-rows s b rows)) where
+    abbrev records' : List (Record V)
+    records' = set records (party - 1) r
+
+    abbrev rows' : List (Row V)
+    rows' = put_mid b ((b + s.n) - b) rows new
+
+    written : parties_of bytes s.n records' rows' ≡ upd (parties_of bytes s.n records rows) party (party_of bytes r new)
+    written = party-written bytes s.n party b records rows r new o.seated.0 o.seated.1 o.places.0 o.places.1 o.value (same ∙ whole)
+
+    as_many : length records' ≡ length records
+    as_many = length-set records (party - 1) r
+
+    as_wide : length rows' ≡ length rows
+    as_wide = part-kept b s.n rows new (same ∙ whole) (omega (arith, o.within, o.places.1))
+
+    -- the tables still fit
+    pub still_fit : true ≡ tables_fit (ring_of bytes s records rows [] 0) → party_fits seat.n (party_of bytes r new) ≡ true → true ≡ tables_fit (ring_of bytes s records' rows' [] 0)
+    still_fit fit h =
+        turn_fits (ring_of bytes s records rows [] 0) party (party_of bytes r new) (parties_of bytes s.n records' rows') (length records') (length rows') fit (ap (λ n. party_fits n (party_of bytes r new)) (sym o.stands.0) ∙ h) written as_many as_wide
+
+    -- the ring has taken the step that the party took
+    pub turned : (width : ℕ) (allows : List ℕ → Bool) (t : model.Setting → ℕ → model.Party → model.Step) (waiting w : List Msg) (capacity c posts : ℕ) →
+        Does (t (setting_of width allows seat) seat.me (kept bytes s party b records rows own)) (party_of bytes r new) waiting w capacity c posts →
+        Gives (stepped (ring_of bytes s records rows waiting capacity) party waiting (t (setting_in width allows s) party (parties_of bytes s.n records rows party))) (said posts) (ring_of bytes s records' rows' w c)
+    turned width allows t waiting w capacity c posts d =
+        let p = kept bytes s party b records rows own in
+        let e : t (setting_of width allows seat) seat.me p ≡ t (setting_in width allows s) party (parties_of bytes s.n records rows party) =
+        ap (λ n. t (record { n = n; f = seat.f; width = width; allows = allows }) seat.me p) o.stands.0 ∙
+        (ap (λ f. t (record { n = s.n; f = f; width = width; allows = allows }) seat.me p) o.stands.1 ∙
+        (ap (λ i. t (setting_in width allows s) i p) o.stands.2 ∙ ap (t (setting_in width allows s) party) (sym read))) in
+        record {
+          answer = ap said (d.posts.answer ∙ ap (λ x. length x.posts) e);
+          after = same_ring s _ _ _ _ _ _ _ _ _ _ (written ∙ ap (upd (parties_of bytes s.n records rows) party) (d.party ∙ ap (λ x. x.after) e)) as_many as_wide
+              (d.posts.list ∙ ap (λ x. waiting ++ x.posts) e) d.posts.kept;
+        }

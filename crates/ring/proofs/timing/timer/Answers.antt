@@ -1,7 +1,7 @@
 use Rattle.std.proofs.Common.{refl}
 use Rattle.agreement.specs.Runs.{timer}
 use Rattle.agreement.proofs.Obeyed.{unfit, obeyed}
-use Rattle.tables.specs.Meaning.{ring_of, answer_of}
+use Rattle.tables.specs.Meaning.{ring_in, answer_of}
 use Rattle.turns.specs.Meaning.{kind_of}
 use Rattle.ring.proofs.timing.timer.Goals as goal
 
@@ -9,12 +9,12 @@ pub returns-then-not-tables_in_order : goal.returns-then-not-tables_in_order
 returns-then-not-tables_in_order g c =
     let v = g.V.Value in
     let k = kind_of v.width v.valid v.allows in
-    let s = ring_of v.bytes c.args.ring.now c.args.records.now c.args.rows.now (g.W.Wire.waiting c.args.wire.now) (g.W.Wire.capacity c.args.wire.now) in
-    record { gives = unfit k s (timer c.args.party) s c.if-not-tables_in_order.ensures refl; untouched = (refl, refl) }
+    let s = ring_in v.bytes c.args.tables.now (g.W.Wire.waiting c.args.wire.now) (g.W.Wire.capacity c.args.wire.now) in
+    record { gives = unfit k s (timer c.args.party) s c.if-not-tables_in_order.ensures refl; lent = (refl, (refl, refl)); untouched = (refl, refl) }
 
 pub returns : goal.returns
 returns g c =
     let v = g.V.Value in
     let k = kind_of v.width v.valid v.allows in
-    let s = ring_of v.bytes c.args.ring.now c.args.records.now c.args.rows.now (g.W.Wire.waiting c.args.wire.now) (g.W.Wire.capacity c.args.wire.now) in
-    record { gives = obeyed k s (timer c.args.party) (answer_of c.run_out.result) _ c.if-not-tables_in_order.ensures c.run_out.ensures.gives; untouched = c.run_out.ensures.untouched }
+    let s = ring_in v.bytes c.args.tables.now (g.W.Wire.waiting c.args.wire.now) (g.W.Wire.capacity c.args.wire.now) in
+    record { gives = obeyed k s (timer c.args.party) (answer_of c.run_out.result) _ c.if-not-tables_in_order.ensures c.run_out.ensures.gives; lent = c.run_out.ensures.lent; untouched = c.run_out.ensures.untouched }

@@ -1,6 +1,6 @@
 use Rattle.std.proofs.Common.{◌≡◌, ◌≤◌, true, [], map, take}
 use Rattle.agreement.specs.Ring.{tables_fit}
-use Rattle.tables.specs.Meaning.{ring_of}
+use Rattle.tables.specs.Meaning.{ring_in, SameTables}
 use Rattle.turns.specs.Meaning.{kind_of}
 use Rattle.shift.specs.Meaning.{call_of, refusals, end_of}
 use Rattle.shift.proofs.obeying.obey_all.Given as goal
@@ -10,7 +10,12 @@ invariant-loop-call g l =
     let v = g.V.Value in
     let w = g.W.Wire in
     let k = kind_of v.width v.valid v.allows in
-    let s = ring_of v.bytes l.ring l.initial.records l.initial.rows (w.waiting l.initial.wire) (w.capacity l.initial.wire) in
-    (l.refused ≤ l.call-index) × (l.refused ≡ refusals k s (take l.call-index (map (call_of v.bytes) l.calls))) ×
-    (ring_of v.bytes l.ring l.records l.rows (w.waiting l.wire) (w.capacity l.wire) ≡ end_of k s (take l.call-index (map (call_of v.bytes) l.calls))) ×
-    (true ≡ tables_fit (ring_of v.bytes l.ring l.records l.rows [] 0))
+    let s = ring_in v.bytes l.initial.tables (w.waiting l.initial.wire) (w.capacity l.initial.wire) in
+    let cs = take l.call-index (map (call_of v.bytes) l.calls) in
+    record {
+      lent : SameTables l.initial.tables l.tables;
+      few : l.refused ≤ l.call-index;
+      count : l.refused ≡ refusals k s cs;
+      after : ring_in v.bytes l.tables (w.waiting l.wire) (w.capacity l.wire) ≡ end_of k s cs;
+      fit : true ≡ tables_fit (ring_in v.bytes l.tables [] 0);
+    }

@@ -1,7 +1,7 @@
-use Rattle.std.proofs.Common.{◌≡◌, ◌≤◌}
+use Rattle.std.proofs.Common.{◌≡◌, ◌+◌, ◌-◌, ◌≤◌}
 use Rattle.rules.specs.Counting.{count}
 use Rattle.agreement.specs.Calls.{named}
 use Rattle.tables.proofs.liars.count_named.Given as goal
 
-abbrev pub invariant-loop-j : goal.invariant-loop-j
-invariant-loop-j l = (l.found ≤ l.j) × (l.n ≤ 64 → l.found ≡ count (named l.word) l.j)
+abbrev pub invariant-loop-party : goal.invariant-loop-party
+invariant-loop-party l = (l.found + 1 ≤ l.party) × (l.party ≤ l.n + 1) × (l.n ≤ 64 → l.found ≡ count (named l.word) (l.party - 1))

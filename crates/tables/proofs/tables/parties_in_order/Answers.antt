@@ -1,25 +1,35 @@
-use Rattle.std.proofs.Common.{◌≡◌, ℕ, Bool, ◌||◌, sym, ap, ◌∙◌, arith}
+use Rattle.std.proofs.Common.{◌≡◌, ℕ, Bool, ◌||◌, List, sym, ap, ◌∙◌, arith}
 use Rattle.rules.specs.Bounds.{every, party_fits}
 use Rattle.agreement.specs.Calls.{named}
 use Rattle.tables.specs.Meaning.{parties_of}
-use Rattle.tables.proofs.Every.{every_more, every_not}
+use Rattle.tables.proofs.Every.{every_up, every_next, every_fails}
+use Rattle.tables.specs.declared.tables.Tables.{Tables}
 use Rattle.tables.proofs.tables.parties_in_order.Goals as goal
+
+-- what is asked of each party
+abbrev in_order : {V : Type 0} → (V → List ℕ) → Tables V → ℕ → Bool
+in_order bytes t i = named t.ring.faulty i || party_fits t.ring.n (parties_of bytes t.ring.n t.records.now t.rows.now i)
 
 pub returns-then-not-party_in_order : goal.returns-then-not-party_in_order
 returns-then-not-party_in_order g c =
-    let s = c.args.ring.now in
-    let t : ℕ → Bool = λ i. named s.faulty i || party_fits s.n (parties_of g.V.Value.bytes s.n c.args.records.now c.args.rows.now i) in
-    sym (every_not t s.n c.loop-i.i c.loop-i-test.true (sym c.if-not-party_in_order.ensures))
+    let t = in_order g.V.Value.bytes c.args.tables.now in
+    sym (every_fails t c.args.tables.now.ring.n c.loop-party.party (omega arith) (omega arith) (sym c.if-not-party_in_order.ensures))
 
-pub loop-i-preserved : goal.loop-i-preserved
-loop-i-preserved g c =
-    let s = c.args.ring.now in
-    let t : ℕ → Bool = λ i. named s.faulty i || party_fits s.n (parties_of g.V.Value.bytes s.n c.args.records.now c.args.rows.now i) in
-    every_more t c.loop-i.i c.loop-i.invariant (sym c.if-not-party_in_order.ensures)
+pub loop-party-preserved : goal.loop-party-preserved
+loop-party-preserved g c =
+    let t = in_order g.V.Value.bytes c.args.tables.now in
+    every_next t c.loop-party.party (omega arith) c.loop-party.invariant (sym c.if-not-party_in_order.ensures)
 
+-- after the last party
+pub returns-else-not-party_in_order : goal.returns-else-not-party_in_order
+returns-else-not-party_in_order g c =
+    let t = in_order g.V.Value.bytes c.args.tables.now in
+    let e : c.loop-party.party ≡ c.args.tables.now.ring.n = omega arith in
+    sym (ap (every t) (sym e) ∙ every_up t c.loop-party.party (omega arith) c.loop-party.invariant (sym c.if-not-party_in_order.ensures))
+
+-- where there is none
 pub returns : goal.returns
 returns g c =
-    let s = c.args.ring.now in
-    let t : ℕ → Bool = λ i. named s.faulty i || party_fits s.n (parties_of g.V.Value.bytes s.n c.args.records.now c.args.rows.now i) in
-    let e : c.loop-i.i ≡ s.n = omega arith in
-    sym (ap (every t) (sym e) ∙ c.loop-i.invariant)
+    let t = in_order g.V.Value.bytes c.args.tables.now in
+    let e : c.args.tables.now.ring.n ≡ 0 = grind arith in
+    sym (ap (every t) e)
