@@ -1,7 +1,8 @@
 -- Lines read one after another.
 use Rattle.std.proofs.Common.{◌≡◌, ℕ, zero, suc, ◌+◌, ◌-◌, ◌<◌, ◌≤◌, List, [], ◌∷◌, ◌++◌, map, length, take, drop, set, replicate, Some, None, Ok, Err, Option, Result, sym, refl, ap, ◌∙◌, ⊎_elim, add-one, arith}
 use Rattle.std.proofs.lemmas.Bool.{cases_lt}
-use Rattle.std.proofs.lemmas.List.{take_more_set, map-set, length-map, drop-set-lt, drop_more, length_push, take-append-drop}
+use Rattle.std.proofs.lemmas.List.{take_more_set, map-set, length-map, drop-map, drop-replicate, length_push, take-append-drop}
+use Rattle.std.proofs.lemmas.Slice.{drop-append-drop}
 use Rattle.sheet_lines.specs.Lines.{lines, line_after}
 use Rattle.sheet_lines.specs.Readings.{own_line, call_line}
 use Rattle.sheet.specs.Sheets.{one_more, each, line_gives, own_values, sized, next}
@@ -36,22 +37,18 @@ each_stuck read from i m (suc n) l e =
     (λ (h : suc n ≤ i). let z : i ≡ suc n = omega arith in ap (each read from) (sym z) ∙ e)
     (cases_lt i (suc n))
 
-back : (k i : ℕ) → i < k → k - i ≡ suc (k - (i + 1))
-back k i l = omega arith
-
 -- a value written at the next place
 pub write_front : {A B : Type 0} (f : A → B) (xs : List A) (i : ℕ) (x : A) → i < length xs → take (i + 1) (map f (set xs i x)) ≡ take i (map f xs) ++ f x ∷ []
 write_front f xs i x l =
     let g : length (map f xs) ≡ length xs = length-map xs f in
     ap (take (i + 1)) (map-set f xs i x) ∙ take_more_set (map f xs) i (f x) (omega arith)
 
-pub write_rest : {A B : Type 0} (f : A → B) (xs : List A) (i k : ℕ) (x : A) (b : B) → length xs ≡ k → i < k → drop i (map f xs) ≡ replicate (k - i) b → drop (i + 1) (map f (set xs i x)) ≡ replicate (k - (i + 1)) b
-write_rest f xs i k x b g l e =
-    let m : length (map f xs) ≡ length xs = length-map xs f in
-    let d = drop_more (map f xs) i b (omega arith) in
-    let r : replicate (k - i) b ≡ b ∷ replicate (k - (i + 1)) b = ap (λ n. replicate n b) (back k i l) in
-    let t : drop (i + 1) (map f xs) ≡ replicate (k - (i + 1)) b = cc in
-    ap (drop (i + 1)) (map-set f xs i x) ∙ (drop-set-lt (i + 1) (map f xs) i (f x) (omega arith) ∙ t)
+-- what follows the places of a table that were written
+pub blanks_after : {A B : Type 0} (f : A → B) (vs xs : List A) (n : ℕ) (b : B) → length vs ≡ n → map f xs ≡ replicate 8 b → drop n (map f (vs ++ drop n xs)) ≡ replicate (8 - n) b
+blanks_after f vs xs n b e h =
+    drop-map f n (vs ++ drop n xs)
+    ∙ (ap (map f) (drop-append-drop n xs vs n (omega arith) e)
+    ∙ (sym (drop-map f n xs) ∙ (ap (drop n) h ∙ drop-replicate n 8 b)))
 
 -- what a reader says of the line at a cursor, told by the cursor's start
 own_place : (reads : List ℕ → Option (List ℕ)) (blank s t : List ℕ) (faulty from p i : ℕ) → s ≡ t → p ≡ from + i → line_gives (p + 1) (own_line reads blank faulty (i + 1) (line_after (lines s) p)) ≡ line_gives (from + i + 1) (own_line reads blank faulty (i + 1) (line_after (lines t) (from + i)))

@@ -1,4 +1,3 @@
 pub mod Sheets
-pub mod Stops
 pub mod Plans
 pub mod Answers

@@ -1,19 +1,20 @@
 // The call lines of a sheet.
-ghost use Rattle.std.specs.Prelude.{◌≡◌, ℕ, ◌+◌, Ok, Err, MatchResult, OnOk};
+ghost use Rattle.std.specs.Prelude.{◌≡◌, Ok, MatchResult};
 ghost use Rattle.sheet_fields.specs.Cuts.{understood};
-ghost use Rattle.sheet_lines.specs.Lines.{lines, line_after};
-ghost use Rattle.sheet_lines.specs.Faults.{outcome, fault_line};
+ghost use Rattle.sheet_lines.specs.Lines.{lines};
+ghost use Rattle.sheet_lines.specs.Faults.{outcome};
 ghost use Rattle.sheet_lines.specs.Readings.{call_line};
-ghost use Rattle.sheet.specs.Sheets.{line_gives, call_list, sized};
-ghost use Rattle.sheet.specs.declared.calls.CallsFault.TheVariants.{Sheet, Memory};
-ghost use Rattle.sheet.specs.Stops.{CallsStopped};
+ghost use Rattle.sheet.specs.Sheets.{call_list, sized};
+ghost use Rattle.sheet.specs.Answers.{LinesStopped};
 
+use crate::fault::NoCalls;
 use sheet_fields::texts::is_text;
 use sheet_lines::call::Call;
 use sheet_lines::cursor::{Cursor, Line};
 use sheet_lines::fault::{LineFault, SheetFault};
-use std::alloc::{AllocError, Global};
+use std::alloc::Global;
 
+// By tests of a text, as the kind is read.
 // `hand=`, `repeat=`, `lose=` or `timer=` and a number.
 fn read_call(line: Line) -> Result<Call, LineFault>
     ensures { understood result ≡ call_line line.entry.text.now }
@@ -34,61 +35,25 @@ fn read_call(line: Line) -> Result<Call, LineFault>
     Err(LineFault::OtherName)
 }
 
-// Reads the next line as a call.
-fn take_call(cursor: &mut Cursor) -> Result<Call, SheetFault>
-    ensures same { cursor.new.sheet.now ≡ cursor.old.sheet.now }
-    ensures passed { OnOk result (cursor.new.passed ≡ cursor.old.passed + 1) }
-    ensures value { outcome cursor.new.passed result ≡ line_gives (cursor.old.passed + 1) (call_line (line_after (lines cursor.old.sheet.now) cursor.old.passed)) }
-{
-    let line = cursor.line()?;
-    Ok(read_call(line)?)
-}
-
-// Reads all lines that are left as calls, and counts them.
+// Reads all lines that are left as calls, and counts them. A `while` here and below: an iterator over
+// a cursor's lines would give a line or a fault each time, which reads no plainer.
 pub fn pass_calls(cursor: &mut Cursor) -> Result<usize, SheetFault>
     ensures value { outcome cursor.new.passed result ≡ sized (call_list (lines cursor.old.sheet.now) cursor.old.passed) }
 {
-    let mut count: usize = 0;
+    let first = cursor.passed_lines();
     while !cursor.at_end() {
-        let _ = take_call(cursor)?;
-        count += 1;
+        let _ = cursor.take(read_call)?;
     }
-    Ok(count)
-}
-
-// Why calls were not handed out: a fault of the sheet, or no memory.
-#[derive(Clone, Copy)]
-pub enum CallsFault {
-    Sheet(SheetFault),
-    Memory,
-}
-
-impl From<SheetFault> for CallsFault {
-    ghost from_gives = { λ f r. r ≡ Sheet f };
-
-    fn from(f: SheetFault) -> CallsFault {
-        CallsFault::Sheet(f)
-    }
-}
-
-impl From<AllocError> for CallsFault {
-    ghost from_gives = { λ _ r. r ≡ Memory };
-
-    fn from(_e: AllocError) -> CallsFault {
-        CallsFault::Memory
-    }
+    Ok(cursor.passed_lines() - first)
 }
 
 // Reads all lines that are left as calls, and keeps them.
-pub fn take_calls(heap: Global, cursor: &mut Cursor) -> Result<Vec<Call>, CallsFault>
-    ensures value { MatchResult result (λ v. call_list (lines cursor.old.sheet.now) cursor.old.passed ≡ Ok v.items) (CallsStopped (call_list (lines cursor.old.sheet.now) cursor.old.passed) cursor.new.passed) }
+pub fn take_calls(heap: Global, cursor: &mut Cursor) -> Result<Vec<Call>, NoCalls<SheetFault>>
+    ensures value { MatchResult result (λ v. call_list (lines cursor.old.sheet.now) cursor.old.passed ≡ Ok v.items) (LinesStopped (call_list (lines cursor.old.sheet.now) cursor.old.passed) cursor.new.passed) }
 {
     let mut calls = Vec::new(heap);
     while !cursor.at_end() {
-        let call = take_call(cursor)?;
-        if calls.push(call).is_err() {
-            return Err(CallsFault::Memory);
-        }
+        calls.push(cursor.take(read_call)?)?;
     }
     Ok(calls)
 }

@@ -1,53 +1,22 @@
 // The first lines of a sheet.
-ghost use Rattle.std.specs.Prelude.{◌≡◌, ℕ, ◌+◌, Ok, Err, MatchResult, OnOk};
-ghost use Rattle.sheet_lines.specs.Lines.{lines, line_after};
-ghost use Rattle.sheet_lines.specs.Faults.{outcome, fault_line};
-ghost use Rattle.sheet_lines.specs.Readings.{kind_line, parties_line, faulty_line};
-ghost use Rattle.sheet.specs.Sheets.{line_gives, fault_lines, fault_part, faults_left_out};
+ghost use Rattle.std.specs.Prelude.{◌≡◌, Ok, Err, MatchResult};
+ghost use Rattle.sheet_lines.specs.Lines.{lines};
+ghost use Rattle.sheet_lines.specs.Faults.{fault_line};
+ghost use Rattle.sheet.specs.Sheets.{fault_lines, fault_part, faults_left_out};
 
 use sheet_lines::cursor::Cursor;
 use sheet_lines::fault::SheetFault;
-use sheet_lines::kind::Kind;
-use sheet_lines::readers::{is_faults, read_count, read_faults, read_faulty, read_kind};
+use sheet_lines::readers::{is_faults, read_faults, read_faulty};
 
-// Reads the next line as the kind.
-pub fn take_kind(cursor: &mut Cursor) -> Result<Kind, SheetFault>
-    ensures same { cursor.new.sheet.now ≡ cursor.old.sheet.now }
-    ensures passed { OnOk result (cursor.new.passed ≡ cursor.old.passed + 1) }
-    ensures value { outcome cursor.new.passed result ≡ line_gives (cursor.old.passed + 1) (kind_line (line_after (lines cursor.old.sheet.now) cursor.old.passed)) }
-{
-    let line = cursor.line()?;
-    Ok(read_kind(line)?)
-}
-
-// Reads the next line as the number of parties.
-pub fn take_count(cursor: &mut Cursor) -> Result<u64, SheetFault>
-    ensures same { cursor.new.sheet.now ≡ cursor.old.sheet.now }
-    ensures passed { OnOk result (cursor.new.passed ≡ cursor.old.passed + 1) }
-    ensures value { outcome cursor.new.passed result ≡ line_gives (cursor.old.passed + 1) (parties_line (line_after (lines cursor.old.sheet.now) cursor.old.passed)) }
-{
-    let line = cursor.line()?;
-    Ok(read_count(line)?)
-}
-
-// Reads the next line as the set of faulty parties.
-fn take_faulty(cursor: &mut Cursor) -> Result<u64, SheetFault>
-    ensures same { cursor.new.sheet.now ≡ cursor.old.sheet.now }
-    ensures passed { OnOk result (cursor.new.passed ≡ cursor.old.passed + 1) }
-    ensures value { outcome cursor.new.passed result ≡ line_gives (cursor.old.passed + 1) (faulty_line (line_after (lines cursor.old.sheet.now) cursor.old.passed)) }
-{
-    let line = cursor.line()?;
-    Ok(read_faulty(line)?)
-}
-
-// How many faults a ring stands, and the set of its faulty parties.
-#[derive(Clone, Copy)]
+// How many faults a ring stands, and the set of its faulty parties. Not a part of `Setup`, whose four
+// fields programs read one by one.
+#[derive(Clone, Copy, PartialEq, Eq, Debug)]
 pub struct Faults {
     pub most: u64,
     pub parties: u64,
 }
 
-// The faults of a ring whose sheet leaves them out.
+// The faults of a ring whose sheet leaves them out: 0, whatever the number that the definition is asked with.
 fn left_out(parties: u64) -> u64
     ensures { result ≡ faults_left_out parties }
 {
@@ -66,7 +35,7 @@ pub fn take_faults(cursor: &mut Cursor, parties: u64) -> Result<Faults, SheetFau
         let most = read_faults(line)?;
         return Ok(Faults {
             most,
-            parties: take_faulty(cursor)?,
+            parties: cursor.take(read_faulty)?,
         });
     }
     let faulty = read_faulty(line)?;

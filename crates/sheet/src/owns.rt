@@ -1,17 +1,17 @@
 // The own values of the parties.
-ghost use Rattle.std.specs.Prelude.{◌≡◌, ℕ, ◌+◌, ◌-◌, ◌≤◌, map, take, drop, replicate, IfOk, Ok, Err, OnOk};
+ghost use Rattle.std.specs.Prelude.{◌≡◌, ◌+◌, ◌-◌, ◌≤◌, map, take, drop, replicate, IfOk, OnOk};
 ghost use Rattle.sheet_fields.specs.Cuts.{understood_as};
-ghost use Rattle.sheet_lines.specs.Lines.{lines, line_after};
-ghost use Rattle.sheet_lines.specs.Faults.{outcome_as, fault_line};
+ghost use Rattle.sheet_lines.specs.Lines.{lines};
+ghost use Rattle.sheet_lines.specs.Faults.{outcome_as};
 ghost use Rattle.sheet_lines.specs.Readings.{own_line, own_text};
-ghost use Rattle.sheet.specs.Sheets.{line_gives, own_values};
+ghost use Rattle.sheet.specs.Sheets.{own_values};
 
 use sheet_fields::fault::FieldFault;
-use sheet_fields::parties::has_party;
 use sheet_fields::texts::is_text;
 use sheet_fields::value_text::SheetValue;
 use sheet_lines::cursor::{Cursor, Line};
 use sheet_lines::fault::{LineFault, SheetFault};
+use values::parties::has_party;
 
 // `-` of a faulty party, else a value of the kind.
 fn read_own_text<V: SheetValue>(text: &[u8], faulty: u64, party: u64) -> Result<V, FieldFault>
@@ -34,16 +34,6 @@ fn read_own<V: SheetValue>(line: Line, faulty: u64, party: u64) -> Result<V, Lin
     Ok(read_own_text(text, faulty, party)?)
 }
 
-// Reads the next line as the own value of a party.
-fn take_own<V: SheetValue>(cursor: &mut Cursor, faulty: u64, party: u64) -> Result<V, SheetFault>
-    ensures same { cursor.new.sheet.now ≡ cursor.old.sheet.now }
-    ensures passed { OnOk result (cursor.new.passed ≡ cursor.old.passed + 1) }
-    ensures value { outcome_as V.Value.bytes cursor.new.passed result ≡ line_gives (cursor.old.passed + 1) (own_line V.SheetValue.reads (replicate V.Value.width 0) faulty party (line_after (lines cursor.old.sheet.now) cursor.old.passed)) }
-{
-    let line = cursor.line()?;
-    Ok(read_own(line, faulty, party)?)
-}
-
 // Reads the own values of parties 1 to `parties`, at most 8; the places after them stay blank.
 pub fn take_owns<V: SheetValue>(
     cursor: &mut Cursor,
@@ -57,8 +47,9 @@ pub fn take_owns<V: SheetValue>(
     ensures value { outcome_as (λ own. take parties (map V.Value.bytes own)) cursor.new.passed result ≡ own_values V.SheetValue.reads (replicate V.Value.width 0) (lines cursor.old.sheet.now) faulty cursor.old.passed parties }
 {
     let mut own = [V::blank(); 8];
-    for i in 0..parties as usize {
-        own[i] = take_own(cursor, faulty, i as u64 + 1)?;
+    for (i, value) in own[..parties as usize].iter_mut().enumerate() {
+        let party = i as u64 + 1;
+        *value = cursor.take(|line| read_own(line, faulty, party))?;
     }
     Ok(own)
 }

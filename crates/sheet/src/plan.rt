@@ -1,21 +1,21 @@
 // The lines before the calls.
-ghost use Rattle.std.specs.Prelude.{◌≡◌, ℕ, ◌+◌, ◌≤◌, map, replicate, IfOk, Ok, Err, MatchResult, OnOk};
+ghost use Rattle.std.specs.Prelude.{◌≡◌, ◌+◌, ◌≤◌, map, replicate, IfOk, Ok, Err, MatchResult, OnOk};
 ghost use Rattle.sheet_lines.specs.Lines.{lines};
 ghost use Rattle.sheet_lines.specs.Faults.{outcome_as, fault_line};
 ghost use Rattle.sheet.specs.Sheets.{own_list, setting_part};
 ghost use Rattle.sheet.specs.Plans.{plan_means};
 
-use crate::opening::{Faults, take_count, take_faults, take_kind};
+use crate::opening::{Faults, take_faults};
 use crate::owns::take_owns;
 use crate::setup::{Plan, Setup};
 use sheet_fields::value_text::SheetValue;
 use sheet_lines::cursor::Cursor;
 use sheet_lines::fault::SheetFault;
 use sheet_lines::kind::Kind;
-use values::block::Block;
-use values::order::Order;
+use sheet_lines::readers::{read_count, read_kind};
 
-// Reads the own lines, and puts all of a setup together.
+// Reads the own lines, and puts all of a setup together. That the cursor stays on its sheet is one
+// equation in each contract (`same`): a name for it would be no plainer.
 fn read_setup<V: SheetValue>(
     cursor: &mut Cursor,
     parties: u64,
@@ -42,11 +42,12 @@ pub fn read_plan(cursor: &mut Cursor) -> Result<Plan, SheetFault>
     ensures same { cursor.new.sheet.now ≡ cursor.old.sheet.now }
     ensures value { MatchResult result (λ p. setting_part (lines cursor.old.sheet.now) ≡ Ok (plan_means p cursor.new.passed)) (λ e. setting_part (lines cursor.old.sheet.now) ≡ Err (fault_line cursor.new.passed e)) }
 {
-    let kind = take_kind(cursor)?;
-    let parties = take_count(cursor)?;
+    let kind = cursor.take(read_kind)?;
+    let parties = cursor.take(read_count)?;
     let faults = take_faults(cursor, parties)?;
+    // an arm for each kind of value, since each is another type
     match kind {
-        Kind::Blocks => Ok(Plan::Blocks(read_setup::<Block>(cursor, parties, faults)?)),
-        Kind::Orders => Ok(Plan::Orders(read_setup::<Order>(cursor, parties, faults)?)),
+        Kind::Blocks => read_setup(cursor, parties, faults).map(Plan::Blocks),
+        Kind::Orders => read_setup(cursor, parties, faults).map(Plan::Orders),
     }
 }

@@ -1,12 +1,11 @@
 // The reader of whole sheets. It runs nothing.
-ghost use Rattle.std.specs.Prelude.{◌≡◌, ℕ, Ok, Err, MatchResult};
+ghost use Rattle.std.specs.Prelude.{◌≡◌, Ok, Err, MatchResult};
 ghost use Rattle.sheet_lines.specs.Faults.{fault_line, fault_number};
-ghost use Rattle.sheet.specs.Sheets.{sheet_means, setting_of, calls_of};
+ghost use Rattle.sheet.specs.Sheets.{sheet_means, calls_of};
 ghost use Rattle.sheet.specs.Plans.{PlanMeant};
-ghost use Rattle.sheet.specs.declared.calls.CallsFault.TheVariants.{Sheet, Memory};
 ghost use Rattle.sheet.specs.Answers.{HasNoCalls, LinesStopped};
 
-use crate::calls::{CallsFault, pass_calls, take_calls};
+use crate::calls::{pass_calls, take_calls};
 use crate::fault::{NoCalls, Unreadable};
 use crate::plan::read_plan;
 use crate::setup::Plan;
@@ -44,6 +43,7 @@ pub fn read(sheet: &[u8]) -> Result<Plan, Unreadable>
     ensures { MatchResult result (PlanMeant (sheet_means sheet.now)) (λ u. (sheet_means sheet.now ≡ Err u.line) × (fault_number u.fault ≡ 8)) }
 {
     let mut cursor = Cursor::new(sheet);
+    // a match, since the proof of a closure for map_err would know nothing of the cursor
     match read_lines(&mut cursor) {
         Ok(plan) => Ok(plan),
         Err(fault) => Err(placed(&cursor, fault)),
@@ -51,7 +51,7 @@ pub fn read(sheet: &[u8]) -> Result<Plan, Unreadable>
 }
 
 // Goes through all lines and keeps the calls.
-fn collect(heap: Global, cursor: &mut Cursor) -> Result<Vec<Call>, CallsFault>
+fn collect(heap: Global, cursor: &mut Cursor) -> Result<Vec<Call>, NoCalls<SheetFault>>
     requires { cursor.old.passed ≡ 0 }
     ensures { MatchResult result (λ v. calls_of (sheet_means cursor.old.sheet.now) ≡ Ok v.items) (LinesStopped (sheet_means cursor.old.sheet.now) cursor.new.passed) }
 {
@@ -60,13 +60,14 @@ fn collect(heap: Global, cursor: &mut Cursor) -> Result<Vec<Call>, CallsFault>
 }
 
 // The calls of a readable sheet, in order; else the first line at fault, or want of memory.
-pub fn calls(heap: Global, sheet: &[u8]) -> Result<Vec<Call>, NoCalls>
+pub fn calls(heap: Global, sheet: &[u8]) -> Result<Vec<Call>, NoCalls<Unreadable>>
     ensures { MatchResult result (λ v. calls_of (sheet_means sheet.now) ≡ Ok v.items) (HasNoCalls (sheet_means sheet.now)) }
 {
     let mut cursor = Cursor::new(sheet);
+    // a match, as in `read`
     match collect(heap, &mut cursor) {
         Ok(calls) => Ok(calls),
-        Err(CallsFault::Sheet(fault)) => Err(NoCalls::Unreadable(placed(&cursor, fault))),
-        Err(CallsFault::Memory) => Err(NoCalls::Memory),
+        Err(NoCalls::Unreadable(fault)) => Err(NoCalls::Unreadable(placed(&cursor, fault))),
+        Err(NoCalls::Memory) => Err(NoCalls::Memory),
     }
 }

@@ -2,6 +2,7 @@
 use values::block::Block;
 use values::order::Order;
 
+// 8 is the most parties of a sheet; contracts write it as a figure.
 // Parties, faults, the set of faulty parties (bit j - 1 is party j) and the own values, of one kind.
 #[derive(Clone, Copy)]
 pub struct Setup<V> {

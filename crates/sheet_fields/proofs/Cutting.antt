@@ -1,7 +1,8 @@
 -- Facts about cuts.
-use Rattle.std.proofs.Common.{◌≡◌, ℕ, zero, suc, ◌+◌, ◌<◌, ◌≤◌, true, false, cond, ◌||◌, eqb, ltb, List, [], ◌∷◌, length, get_or, take, drop, refl, ap, ◌∙◌, add-one, arith}
+use Rattle.std.proofs.Common.{◌≡◌, ℕ, ◌+◌, ◌<◌, ◌≤◌, true, false, cond, ◌||◌, eqb, ltb, List, [], ◌∷◌, length, take, drop, Some, None, Option, MatchOption, sym, refl, ap, ◌∙◌, subst, add-one, arith}
+use Rattle.std.specs.List.{position_or_len}
+use Rattle.std.proofs.lemmas.List.Recursion.{is_position_or_len}
 use Rattle.std.proofs.lemmas.Bool.Decides.{nat_tests}
-use Rattle.std.proofs.lemmas.Bool.{eq-eqb, ne_eqb}
 use Rattle.sheet_fields.specs.Cuts.{before, after, has, onto, pieces}
 
 -- the text before the first stop is a front of the text
@@ -31,20 +32,24 @@ after-drop stop (b ∷ bs) =
     elim (eqb b stop) as (λ v. cond v bs (after stop bs) ≡ drop (length (cond v [] (b ∷ before stop bs)) + 1) (b ∷ bs))
     [ true ↦ refl | false ↦ simp add-one (simp add-one at (after-drop stop bs)) ]
 
--- no stop in the first i bytes
-abbrev pub Clear : ℕ → List ℕ → ℕ → Type 0
-Clear stop bs i = (k : ℕ) → k < i → get_or bs k 0 ≡ stop → ⊥
+-- the place of the first stop, and the text before it
+pub length_before-place : (stop : ℕ) (bs : List ℕ) → length (before stop bs) ≡ position_or_len (λ b. eqb b stop) bs
+length_before-place stop bs =
+    is_position_or_len (λ t. length (before stop t)) (λ b. eqb b stop) refl
+    (λ x xs. elim (eqb x stop) as (λ v. length (cond v [] (x ∷ before stop xs)) ≡ cond v 0 (1 + length (before stop xs))) [ true ↦ refl | false ↦ omega arith ])
+    bs
 
-pub before_at : (stop : ℕ) (bs : List ℕ) (i : ℕ) → i < length bs → Clear stop bs i → get_or bs i 0 ≡ stop → i ≡ length (before stop bs)
-before_at stop [] i l c h = absurd (omega arith)
-before_at stop (b ∷ bs) zero l c h = rw (eq-eqb b stop h) refl
-before_at stop (b ∷ bs) (suc i) l c h =
-    rw (ne_eqb b stop (c 0 (omega arith))) (ap suc (before_at stop bs i (omega arith) (λ k p e. c (suc k) (omega arith) e) h))
+-- what a search for the first stop tells of a cut
+abbrev pub CutAt : ℕ → List ℕ → Option ℕ → Type 0
+CutAt stop bs r = MatchOption r (has stop bs ≡ false) (λ i. (has stop bs ≡ true) × (i ≡ length (before stop bs)))
 
-pub before_all : (stop : ℕ) (bs : List ℕ) → Clear stop bs (length bs) → length bs ≡ length (before stop bs)
-before_all stop [] c = refl
-before_all stop (b ∷ bs) c =
-    rw (ne_eqb b stop (c 0 (omega arith))) (ap suc (before_all stop bs (λ k p e. c (suc k) (omega arith) e)))
+pub cut_at : (stop : ℕ) (bs : List ℕ) (r : Option ℕ) → r ≡ cond (ltb (position_or_len (λ b. eqb b stop) bs) (length bs)) (Some (position_or_len (λ b. eqb b stop) bs)) None → CutAt stop bs r
+cut_at stop bs r e =
+    let g : r ≡ cond (has stop bs) (Some (length (before stop bs))) None = e ∙ rw (← length_before-place stop bs, ← has-is stop bs) refl in
+    subst (CutAt stop bs) (sym g) (
+    elim (has stop bs) as (λ v. MatchOption (cond v (Some (length (before stop bs))) None) (v ≡ false) (λ i. (v ≡ true) × (i ≡ length (before stop bs))))
+    [ true ↦ (refl, refl) | false ↦ refl ]
+    )
 
 -- the pieces of a text with a stop: the text before it, and the pieces of the rest
 pub pieces_more : (stop : ℕ) (bs : List ℕ) → has stop bs ≡ true → pieces stop bs ≡ before stop bs ∷ pieces stop (after stop bs)

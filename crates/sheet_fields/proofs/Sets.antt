@@ -1,12 +1,9 @@
 -- Facts about sets of parties.
-use Rattle.std.proofs.Common.{◌≡◌, ℕ, zero, suc, ◌+◌, ◌-◌, ◌/◌, ◌%◌, ◌^◌, ◌<◌, ◌≤◌, true, false, eqb, List, [], Some, None, Option, sym, refl, ap, ◌∙◌, pow-suc, arith, pow_mono}
-use lib.Bits.{bit_and}
+use Rattle.std.proofs.Common.{◌≡◌, ℕ, zero, suc, ◌+◌, ◌-◌, ◌^◌, ◌<◌, ◌≤◌, true, false, List, [], Some, None, Option, sym, ap, ◌∙◌, pow-suc, arith, pow_mono}
 use Rattle.std.proofs.lemmas.Bool.Decides.{nat_tests}
-use Rattle.std.proofs.lemmas.Nat.{and_mask}
 use Rattle.sheet_fields.specs.Cuts.{has, before, after, pieces}
 use Rattle.sheet_fields.specs.Numbers.{number, between}
-use Rattle.sheet_fields.specs.Parties.{member, rising}
-use Rattle.std.proofs.lemmas.Bool.{le-leb}
+use Rattle.sheet_fields.specs.Parties.{rising}
 use Rattle.sheet_fields.proofs.Cutting.{pieces_more, pieces_last}
 
 pub between_bounds : (low high j : ℕ) (o : Option ℕ) → Some j ≡ between low high o → (low ≤ j) × (j ≤ high)
@@ -26,14 +23,6 @@ joins word low p w l =
     let m : 2 ^ low ≤ 2 ^ (p - 1) = pow_mono (omega arith) in
     let d = doubled p (omega arith) in
     omega arith
-
-pub low_bit : (a : ℕ) → bit_and a 1 ≡ a % 2
-low_bit a = and_mask a 1
-
-pub member_is : (word j : ℕ) → 1 ≤ j → j ≤ 64 → eqb (bit_and (word / 2 ^ (j - 1)) 1) 1 ≡ member word j
-member_is word j l h =
-    ap (λ n. eqb n 1) (low_bit (word / 2 ^ (j - 1)))
-    ∙ sym (rw (le-leb 1 j l, le-leb j 64 h) refl)
 
 -- reading a list of parties, one step and at its end
 abbrev on : ℕ → List (List ℕ) → Option ℕ → Option ℕ

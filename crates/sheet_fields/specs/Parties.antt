@@ -1,12 +1,8 @@
--- The set of faulty parties as a word of 64 bits: bit j - 1 is party j.
-use Rattle.std.specs.Prelude.{ℕ, ◌+◌, ◌-◌, ◌/◌, ◌%◌, ◌^◌, Bool, cond, ◌&&◌, List, [], ◌∷◌, Some, None, codes, Option, ◌==◌, nat_le}
+-- The set of faulty parties that a text writes.
+use Rattle.std.specs.Prelude.{ℕ, ◌+◌, ◌-◌, ◌^◌, cond, List, [], ◌∷◌, Some, None, codes, Option}
 use Rattle.values.specs.Same.{equal}
 use Rattle.sheet_fields.specs.Cuts.{pieces}
 use Rattle.sheet_fields.specs.Numbers.{number, between}
-
--- whether party j, from 1 to 64, is in the set
-abbrev pub member : ℕ → ℕ → Bool
-member word j = nat_le 1 j && (nat_le j 64 && word / 2 ^ (j - 1) % 2 == 1)
 
 -- the set with the parties that the pieces write, each above `low` and the one before it, at most 64
 abbrev pub rising : ℕ → ℕ → List (List ℕ) → Option ℕ

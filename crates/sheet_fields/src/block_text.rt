@@ -7,7 +7,6 @@ ghost use Rattle.sheet_fields.specs.Texts.{block_from, block_text};
 use crate::cuts::cut;
 use crate::fault::FieldFault;
 use crate::number::read_number;
-use crate::parties::read_between;
 use crate::value_text::SheetValue;
 use values::block::Block;
 
@@ -16,12 +15,12 @@ fn read_block(first: &[u8], count: &[u8], party: &[u8]) -> Result<Block, FieldFa
     ensures { understood_as block_bytes result ≡ block_from first.now count.now party.now }
 {
     let first = read_number(first)?;
-    let count = read_between(count, 0, 4_294_967_295)?;
-    let party = read_between(party, 0, 65_535)?;
+    let count = u32::try_from(read_number(count)?).map_err(|_| FieldFault::TooLarge)?;
+    let party = u16::try_from(read_number(party)?).map_err(|_| FieldFault::TooLarge)?;
     Ok(Block {
         first,
-        count: count as u32,
-        party: party as u16,
+        count,
+        party,
     })
 }
 
@@ -29,12 +28,8 @@ impl SheetValue for Block {
     ghost reads = { block_text };
 
     fn read_text(s: &[u8]) -> Result<Block, FieldFault> {
-        let Some(one) = cut(s, b',') else {
-            return Err(FieldFault::WrongCount);
-        };
-        let Some(two) = cut(one.rest, b',') else {
-            return Err(FieldFault::WrongCount);
-        };
+        let one = cut(s, b',').ok_or(FieldFault::WrongCount)?;
+        let two = cut(one.rest, b',').ok_or(FieldFault::WrongCount)?;
         read_block(one.front, two.front, two.rest)
     }
 }

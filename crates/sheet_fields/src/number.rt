@@ -17,17 +17,12 @@ pub fn read_number(s: &[u8]) -> Result<u64, FieldFault>
     }
     let mut n: u64 = 0;
     for b in s {
-        let d = match *b {
+        let digit = match *b {
             b'0'..=b'9' => u64::from(*b - b'0'),
             _ => return Err(FieldFault::NoDigit),
         };
-        let Some(m) = n.checked_mul(10) else {
-            return Err(FieldFault::TooLarge);
-        };
-        let Some(k) = m.checked_add(d) else {
-            return Err(FieldFault::TooLarge);
-        };
-        n = k;
+        let tens = n.checked_mul(10).ok_or(FieldFault::TooLarge)?;
+        n = tens.checked_add(digit).ok_or(FieldFault::TooLarge)?;
     }
     Ok(n)
 }

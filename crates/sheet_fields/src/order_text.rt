@@ -16,17 +16,14 @@ use values::rate::Rate;
 fn read_pace(s: &[u8]) -> Result<Order, FieldFault>
     ensures { understood_as order_bytes result ≡ pace_text s.now }
 {
-    let Some(halves) = cut(s, b',') else {
-        return Err(FieldFault::UnknownText);
-    };
+    let halves = cut(s, b',').ok_or(FieldFault::UnknownText)?;
     if !is_text(halves.front, b"pace") {
         return Err(FieldFault::UnknownText);
     }
     let n = read_between(halves.rest, 1, 600)?;
-    match Rate::new(n as u16) {
-        Some(rate) => Ok(Order::Pace(rate)),
-        None => Err(FieldFault::TooLarge),
-    }
+    Rate::new(n as u16)
+        .map(Order::Pace)
+        .ok_or(FieldFault::TooLarge)
 }
 
 impl SheetValue for Order {

@@ -1,8 +1,8 @@
 // The set of faulty parties, a word whose bit j - 1 is party j.
-ghost use Rattle.std.specs.Prelude.{◌≡◌, ℕ, ◌+◌, ◌-◌, ◌^◌, ◌<◌, ◌≤◌, length};
+ghost use Rattle.std.specs.Prelude.{◌≡◌, ◌+◌, ◌-◌, ◌^◌, ◌<◌, ◌≤◌};
 ghost use Rattle.sheet_fields.specs.Cuts.{understood, pieces};
 ghost use Rattle.sheet_fields.specs.Numbers.{number, between};
-ghost use Rattle.sheet_fields.specs.Parties.{member, rising, party_set};
+ghost use Rattle.sheet_fields.specs.Parties.{rising, party_set};
 
 use crate::cuts::cut;
 use crate::fault::FieldFault;
@@ -31,6 +31,7 @@ fn with_party(word: u64, low: u64, party: u64) -> u64
     word + (1u64 << (party - 1))
 }
 
+// By recursion, as the definition goes.
 // Adds the parties of a list with commas to a set whose parties are at most `low`.
 fn read_rising(s: &[u8], low: u64, word: u64) -> Result<u64, FieldFault>
     requires { (word < 2 ^ low) × (low ≤ 64) }
@@ -56,14 +57,4 @@ pub fn read_parties(s: &[u8]) -> Result<u64, FieldFault>
         return Ok(0);
     }
     read_rising(s, 0, 0)
-}
-
-// Whether a party from 1 to 64 is in the set.
-pub fn has_party(word: u64, party: u64) -> bool
-    ensures { result ≡ member word party }
-{
-    if party < 1 || party > 64 {
-        return false;
-    }
-    (word >> (party - 1)) & 1 == 1
 }

@@ -3,7 +3,8 @@ use Rattle.std.specs.Prelude.{ℕ, Bool, cond, ◌&&◌, List, Some, None, codes
 use Rattle.values.specs.Same.{equal}
 use Rattle.sheet_fields.specs.Cuts.{has, before, after, then}
 use Rattle.sheet_fields.specs.Numbers.{number, between}
-use Rattle.sheet_fields.specs.Parties.{member, party_set}
+use Rattle.values.specs.Parties.{member}
+use Rattle.sheet_fields.specs.Parties.{party_set}
 use Rattle.sheet_lines.specs.declared.kind.Kind.{Kind}
 use Rattle.sheet_lines.specs.declared.kind.Kind.TheVariants.{Blocks, Orders}
 use Rattle.sheet_lines.specs.declared.call.Call.{Call}

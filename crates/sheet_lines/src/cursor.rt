@@ -1,5 +1,5 @@
 // A cursor over a sheet's bytes, which goes from line to line.
-ghost use Rattle.std.specs.Prelude.{◌≡◌, ℕ, ◌+◌, ◌<◌, ◌≤◌, [], length, drop, MatchResult, nat_le};
+ghost use Rattle.std.specs.Prelude.{◌≡◌, ◌+◌, ◌≤◌, [], length, drop, MatchResult, nat_le};
 ghost use Rattle.sheet_fields.specs.Cuts.{pieces};
 ghost use Rattle.sheet_lines.specs.Lines.{lines_from, lines, line_after};
 ghost use Rattle.sheet_lines.specs.Faults.{fault_line};
@@ -47,8 +47,7 @@ impl<'a> Cursor<'a> {
     pub fn passed_lines(&self) -> usize
         ensures { result ≡ self.now.passed }
     {
-        let lines = self.passed;
-        lines
+        self.passed
     }
 
     // Whether no line is left.
@@ -66,27 +65,22 @@ impl<'a> Cursor<'a> {
         if self.at >= self.sheet.len() {
             return Err(SheetFault::Missing);
         }
-        match cut(&self.sheet[self.at..self.sheet.len()], b'\n') {
-            None => {
-                self.at = self.sheet.len();
-                self.passed += 1;
-                Err(SheetFault::Line(LineFault::NoEnd))
-            }
-            Some(halves) => {
-                let text = halves.front;
-                self.at += text.len() + 1;
-                self.passed += 1;
-                if self.at > MOST_BYTES {
-                    return Err(SheetFault::TooLong);
-                }
-                if text.len() > MOST_IN_LINE {
-                    return Err(SheetFault::Line(LineFault::TooLong));
-                }
-                Ok(Line {
-                    number: self.passed,
-                    text,
-                })
-            }
+        self.passed += 1;
+        let Some(halves) = cut(&self.sheet[self.at..], b'\n') else {
+            self.at = self.sheet.len();
+            return Err(LineFault::NoEnd.into());
+        };
+        let text = halves.front;
+        self.at += text.len() + 1;
+        if self.at > MOST_BYTES {
+            return Err(SheetFault::TooLong);
         }
+        if text.len() > MOST_IN_LINE {
+            return Err(LineFault::TooLong.into());
+        }
+        Ok(Line {
+            number: self.passed,
+            text,
+        })
     }
 }

@@ -6,4 +6,5 @@ pub mod cursor;
 pub mod fault;
 pub mod kind;
 pub mod readers;
+pub mod take;
 pub mod token;

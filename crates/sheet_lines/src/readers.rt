@@ -1,9 +1,8 @@
 // Readers of one line each.
 ghost use Rattle.std.specs.Prelude.{◌≡◌, if◌then◌else◌, Some, None, codes};
-ghost use Rattle.sheet_fields.specs.Cuts.{understood, has, before, after};
-ghost use Rattle.sheet_fields.specs.Numbers.{number};
+ghost use Rattle.sheet_fields.specs.Cuts.{understood, has, before};
 ghost use Rattle.sheet_lines.specs.Tokens.{found_bytes, found_number};
-ghost use Rattle.sheet_lines.specs.Readings.{field, number_line, kind_line, parties_line, faults_here, faulty_line, call_line, call_named};
+ghost use Rattle.sheet_lines.specs.Readings.{field, number_line, kind_line, parties_line, faults_here, faulty_line};
 
 use crate::call::Call;
 use crate::cursor::Line;
@@ -21,26 +20,22 @@ impl<'a> Line<'a> {
     pub fn name(self) -> Result<Token<'a>, LineFault>
         ensures { found_bytes result ≡ (if has 61 self.entry.text.now then Some (before 61 self.entry.text.now) else None) }
     {
-        match cut(self.text, b'=') {
-            Some(halves) => Ok(Token::Name(halves.front)),
-            None => Err(LineFault::NoName),
-        }
+        let halves = cut(self.text, b'=').ok_or(LineFault::NoName)?;
+        Ok(Token::Name(halves.front))
     }
 
     // The part after the `=` of a line with this name.
     pub fn value(self, name: &[u8]) -> Result<Token<'a>, LineFault>
         ensures { found_bytes result ≡ field name.now self.entry.text.now }
     {
-        let Some(halves) = cut(self.text, b'=') else {
-            return Err(LineFault::NoName);
-        };
+        let halves = cut(self.text, b'=').ok_or(LineFault::NoName)?;
         if !is_text(halves.front, name) {
             return Err(LineFault::OtherName);
         }
         Ok(Token::Value(halves.rest))
     }
 
-    // The number after the `=` of a line with this name.
+    // The number after the `=` of a line with this name, as a token: a reader that wants the count alone asks it.
     pub fn number(self, name: &[u8]) -> Result<Token<'a>, LineFault>
         ensures { found_number result ≡ number_line name.now self.entry.text.now }
     {
@@ -50,7 +45,7 @@ impl<'a> Line<'a> {
     }
 }
 
-// `kind=block` or `kind=order`.
+// `kind=block` or `kind=order`. By tests of a text: the last arm of a match on byte strings was not proved.
 pub fn read_kind(line: Line) -> Result<Kind, LineFault>
     ensures { understood result ≡ kind_line line.entry.text.now }
 {
@@ -61,7 +56,7 @@ pub fn read_kind(line: Line) -> Result<Kind, LineFault>
     if is_text(text, b"order") {
         return Ok(Kind::Orders);
     }
-    Err(LineFault::Field(FieldFault::UnknownText))
+    Err(FieldFault::UnknownText.into())
 }
 
 // `parties=N`, at most 8.
@@ -70,7 +65,7 @@ pub fn read_count(line: Line) -> Result<u64, LineFault>
 {
     let n = line.number(b"parties")?.count()?;
     if n > 8 {
-        return Err(LineFault::Field(FieldFault::TooLarge));
+        return Err(FieldFault::TooLarge.into());
     }
     Ok(n)
 }
@@ -79,10 +74,7 @@ pub fn read_count(line: Line) -> Result<u64, LineFault>
 pub fn is_faults(line: Line) -> bool
     ensures { result ≡ faults_here line.entry.text.now }
 {
-    match cut(line.text, b'=') {
-        Some(halves) => is_text(halves.front, b"faults"),
-        None => false,
-    }
+    cut(line.text, b'=').is_some_and(|halves| is_text(halves.front, b"faults"))
 }
 
 // `faults=F`.

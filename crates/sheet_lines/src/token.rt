@@ -22,9 +22,7 @@ impl<'a> Token<'a> {
         ensures { result.now ≡ token_bytes self.entry }
     {
         match self {
-            Token::Name(s) => s,
-            Token::Number(s, _) => s,
-            Token::Value(s) => s,
+            Token::Name(s) | Token::Number(s, _) | Token::Value(s) => s,
         }
     }
 
@@ -34,8 +32,7 @@ impl<'a> Token<'a> {
     {
         match self {
             Token::Number(_, n) => Ok(n),
-            Token::Name(s) => read_number(s),
-            Token::Value(s) => read_number(s),
+            Token::Name(s) | Token::Value(s) => read_number(s),
         }
     }
 }

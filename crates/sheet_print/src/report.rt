@@ -7,73 +7,51 @@ use crate::value_text::ValueText;
 use sheet::fault::NoCalls;
 use sheet::reader::{calls, read};
 use sheet::setup::{Plan, Setup};
-use sheet_fields::parties::has_party;
 use sheet_lines::call::Call;
 use std::alloc::{AllocError, Global};
 use values::block::Block;
 use values::order::Order;
+use values::parties::has_party;
 
-// The set of faulty parties as a sheet writes it.
+// The set of faulty parties as a sheet writes it. Texts that want memory, so no Display of theirs.
 fn parties_text(heap: Global, faulty: u64) -> Result<String, AllocError> {
     if faulty == 0 {
         return format!(in heap; "none");
     }
     let mut out = String::new(heap);
-    for party in 1..65 {
-        if has_party(faulty, party) {
-            if !out.is_empty() {
-                out.push_str(",")?;
-            }
-            out.push_str(format!(in heap; "{party}")?.as_str())?;
+    for party in (1..=64).filter(|party| has_party(faulty, *party)) {
+        if !out.is_empty() {
+            write!(out, ",")?;
         }
+        write!(out, "{party}")?;
     }
     Ok(out)
 }
 
 // The lines of a setup after its kind.
 fn setup_text<V: ValueText>(heap: Global, setup: &Setup<V>) -> Result<String, AllocError> {
-    let parties = setup.parties;
-    let faults = setup.faults;
-    let faulty = parties_text(heap, setup.faulty)?;
-    let mut out = format!(in heap; "parties={parties}\nfaults={faults}\nfaulty={faulty}\n")?;
-    for i in 0..8 {
-        let party = i as u64 + 1;
-        if party <= setup.parties {
-            if has_party(setup.faulty, party) {
-                out.push_str("own=-\n")?;
-            } else {
-                let text = setup.own[i].to_text(heap)?;
-                out.push_str(format!(in heap; "own={text}\n")?.as_str())?;
-            }
+    let mut out = String::new(heap);
+    writeln!(out, "parties={}", setup.parties)?;
+    writeln!(out, "faults={}", setup.faults)?;
+    writeln!(out, "faulty={}", parties_text(heap, setup.faulty)?)?;
+    for (party, own) in (1..=setup.parties).zip(&setup.own) {
+        if has_party(setup.faulty, party) {
+            writeln!(out, "own=-")?;
+        } else {
+            writeln!(out, "own={}", own.to_text(heap)?)?;
         }
     }
     Ok(out)
 }
 
-// The line of a call.
-fn call_text(heap: Global, call: Call) -> Result<String, AllocError> {
-    match call {
-        Call::Hand(n) => format!(in heap; "hand={n}\n"),
-        Call::Repeat(n) => format!(in heap; "repeat={n}\n"),
-        Call::Lose(n) => format!(in heap; "lose={n}\n"),
-        Call::Timer(n) => format!(in heap; "timer={n}\n"),
-    }
-}
-
-// The lines of a plan and of the calls that follow it.
+// The lines of a plan and of the calls that follow it; an arm for each kind of value, since each is another type.
 fn plan_text(heap: Global, plan: &Plan, calls: &[Call]) -> Result<String, AllocError> {
     let mut out = match plan {
-        Plan::Blocks(setup) => {
-            let text = setup_text(heap, setup)?;
-            format!(in heap; "kind=block\n{text}")?
-        }
-        Plan::Orders(setup) => {
-            let text = setup_text(heap, setup)?;
-            format!(in heap; "kind=order\n{text}")?
-        }
+        Plan::Blocks(setup) => format!(in heap; "kind=block\n{}", setup_text(heap, setup)?)?,
+        Plan::Orders(setup) => format!(in heap; "kind=order\n{}", setup_text(heap, setup)?)?,
     };
     for call in calls {
-        out.push_str(call_text(heap, *call)?.as_str())?;
+        writeln!(out, "{call}")?;
     }
     Ok(out)
 }

@@ -8,6 +8,7 @@ use values::block::Block;
 use values::order::Order;
 use values::value::Value;
 
+// A trait of its own and no Display, for what it promises: the text reads back.
 pub trait ValueText: SheetValue {
     // the text of a value
     ghost shows: { Self → List ℕ };
@@ -22,9 +23,11 @@ impl ValueText for Block {
     ghost shows = { block_shown };
 
     fn to_text(&self, heap: Global) -> Result<String, AllocError> {
-        let first = self.first;
-        let count = self.count;
-        let party = self.party;
+        let Block {
+            first,
+            count,
+            party,
+        } = *self;
         format!(in heap; "{first},{count},{party}")
     }
 }
@@ -37,10 +40,7 @@ impl ValueText for Order {
             Order::Blank => format!(in heap; "-"),
             Order::Hold => format!(in heap; "hold"),
             Order::Resume => format!(in heap; "resume"),
-            Order::Pace(rate) => {
-                let number = rate.number();
-                format!(in heap; "pace,{number}")
-            }
+            Order::Pace(rate) => format!(in heap; "pace,{}", rate.number()),
         }
     }
 }

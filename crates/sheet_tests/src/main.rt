@@ -13,12 +13,8 @@ fn show(rt: &HostRuntime, name: &str) -> anyhow::Result<()> {
 }
 
 fn run(rt: &HostRuntime) -> anyhow::Result<()> {
-    let mut first = true;
-    for name in env::args(rt)? {
-        if !first {
-            show(rt, name.as_str())?;
-        }
-        first = false;
+    for name in env::args(rt)?.skip(1) {
+        show(rt, name.as_str())?;
     }
     Ok(())
 }

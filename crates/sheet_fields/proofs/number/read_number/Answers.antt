@@ -1,4 +1,5 @@
-use Rattle.std.proofs.Common.{◌≡◌, ◌+◌, ◌*◌, ◌^◌, ◌<◌, ◌≤◌, true, length, get_or, Some, sym, ap, ◌∙◌, arith, rules}
+use Rattle.std.proofs.Common.{◌≡◌, ◌+◌, ◌*◌, ◌^◌, ◌<◌, ◌≤◌, true, length, get_or, Some, sym, ap, ◌∙◌, arith, rules, tests, ◌-◌}
+use Rattle.std.proofs.lemmas.Result.{err_from_is_err_and}
 use Rattle.std.proofs.lemmas.Bool.Decides.{nat_tests}
 use Rattle.std.specs.Str.Parse.{digits_value}
 use Rattle.std.proofs.lemmas.List.{take_all}
@@ -20,23 +21,26 @@ returns-in_default-2 c =
     let i = c.loop-b.b-index in
     no_digit s i (omega arith) (high_digit (get_or s i 0) (omega arith))
 
-pub returns-in_default-checked_mul : goal.returns-in_default-checked_mul
-returns-in_default-checked_mul c =
+pub returns-in_err-tens : goal.returns-in_err-tens
+returns-in_err-tens c =
     let s = c.args.s.now in
     let i = c.loop-b.b-index in
     let e = digits_value_more 10 s i c.loop-b-test.true in
-    let h : 2 ^ 64 ≤ c.loop-b.n * 10 = omega (arith, c.in_default-checked_mul.ensures) in
-    sym (too_large s (i + 1) (omega arith))
+    let p = err_from_is_err_and c.from_residual.result c.from_residual.ensures.1 in
+    let h : 2 ^ 64 ≤ c.loop-b.n * 10 = search (rules, tests) in
+    rw p.1 (sym (too_large s (i + 1) (omega arith)))
 
-pub returns-in_default-checked_add : goal.returns-in_default-checked_add
-returns-in_default-checked_add c =
+pub returns-in_err-n : goal.returns-in_err-n
+returns-in_err-n c =
     let s = c.args.s.now in
     let i = c.loop-b.b-index in
     let e = digits_value_more 10 s i c.loop-b-test.true in
-    let p : 48 ≤ get_or s i 0 = omega arith in
-    let q : get_or s i 0 ≤ 57 = omega arith in
-    let d = digit_value (get_or s i 0) p q in
-    sym (too_large s (i + 1) (omega (arith, c.in_default-checked_add.ensures, c.in-Some.ensures)))
+    let p = err_from_is_err_and c.from_residual-in_err-n.result c.from_residual-in_err-n.ensures.1 in
+    let q : 48 ≤ get_or s i 0 = omega arith in
+    let r : get_or s i 0 ≤ 57 = omega arith in
+    let d = digit_value (get_or s i 0) q r in
+    let h : 2 ^ 64 ≤ c.loop-b.n * 10 + (get_or s i 0 - 48) = search (rules, tests) in
+    rw p.1 (sym (too_large s (i + 1) (omega arith)))
 
 pub loop-b-preserved : goal.loop-b-preserved
 loop-b-preserved c =
@@ -47,7 +51,7 @@ loop-b-preserved c =
     let q : get_or s i 0 ≤ 57 = omega arith in
     let d = digit_value (get_or s i 0) p q in
     let m = digits_more s i c.loop-b-test.true c.loop-b.invariant.1 (is_digit (get_or s i 0) p q) in
-    search (rules, c.in-Some.ensures, c.in-Some-checked_add.ensures)
+    search (rules)
 
 pub returns : goal.returns
 returns c =

@@ -13,11 +13,11 @@ returns-then-self c =
 pub invariant_of-self : goal.invariant_of-self
 invariant_of-self c =
     let s = c.args.self.now in
-    let p = last_line s.sheet.now _ s.at s.passed s.along (take_rest s.sheet.now s.at) c.in-None.ensures c.if-self.false in
+    let p = last_line s.sheet.now _ s.at s.passed s.along (take_rest s.sheet.now s.at) c.in_default.ensures c.if-self.false in
     record { within = omega arith; counted = omega (arith, s.counted); along = p.1 }
 
-pub invariant_of-self-in-Some : goal.invariant_of-self-in-Some
-invariant_of-self-in-Some c =
+pub invariant_of-self-2 : goal.invariant_of-self-2
+invariant_of-self-2 c =
     let s = c.args.self.now in
     let h = c.in-Some.ensures in
     let rest = take (length s.sheet.now - s.at) (drop s.at s.sheet.now) in
@@ -44,16 +44,16 @@ returns-then-text-gt-MOST_IN_LINE c =
     let rest = take (length s.sheet.now - s.at) (drop s.at s.sheet.now) in
     let p = next_line s.sheet.now rest s.at s.passed s.along (take_rest s.sheet.now s.at) h.0 in
     let f = ap length h.1.0 in
-    record { same = refl; cases = (p.0 ∙ kept_long s.at (before 10 rest) (omega arith), refl) }
+    record { same = refl; cases = (p.0 ∙ kept_long s.at (before 10 rest) (omega arith), rw c.into-then-text-gt-MOST_IN_LINE.ensures refl) }
 
-pub returns-in-None : goal.returns-in-None
-returns-in-None c =
+pub returns-in_default : goal.returns-in_default
+returns-in_default c =
     let s = c.args.self.now in
-    let p = last_line s.sheet.now _ s.at s.passed s.along (take_rest s.sheet.now s.at) c.in-None.ensures c.if-self.false in
-    record { same = refl; cases = (p.0, refl) }
+    let p = last_line s.sheet.now _ s.at s.passed s.along (take_rest s.sheet.now s.at) c.in_default.ensures c.if-self.false in
+    record { same = refl; cases = (p.0, rw c.into.ensures refl) }
 
-pub returns-else-text-gt-MOST_IN_LINE : goal.returns-else-text-gt-MOST_IN_LINE
-returns-else-text-gt-MOST_IN_LINE c =
+pub returns : goal.returns
+returns c =
     let s = c.args.self.now in
     let h = c.in-Some.ensures in
     let rest = take (length s.sheet.now - s.at) (drop s.at s.sheet.now) in
