@@ -3,12 +3,13 @@
 //   bench time N ITER   microseconds for ITER agreements of N parties, over each wire: by single calls, and each as one shift
 #![tactic(auto)]
 
-use anyhow::anyhow;
-use describe::blank::{blank_record, blank_row, filled};
+use anyhow::{Context, bail, ensure};
+use describe::blank::Places;
 use frame_wire::buffer::FrameWire;
+use frames::codec::frame_length;
 use ring::delivery::hand;
-use rows::record::Record;
 use rows::row::Row;
+use setup::plan::Plan;
 use setup::setup::set_up;
 use shift::call::Call;
 use shift::shift::run_shift;
@@ -18,6 +19,7 @@ use std::mem::size_of;
 use std::time::Instant;
 use table_wire::table::TableWire;
 use tables::ring::Ring;
+use tables::tables::Tables;
 use values::block::Block;
 use values::order::Order;
 use wires::fixed::fixed_request;
@@ -28,78 +30,55 @@ const PARTIES: usize = 64;
 
 const PLACES: usize = 40_000;
 
+// The plan of n honest parties, each with the same own value.
+fn plan_of<'a>(n: usize, own: &'a [Block]) -> Plan<'a, Block> {
+    Plan {
+        n: n as u64,
+        f: 0,
+        faulty: 0,
+        own,
+    }
+}
+
+const OWN: [Block; 64] = [Block {
+    first: 100,
+    count: 50,
+    party: 1,
+}; 64];
+
 // Sets up n parties and hands over what waits until nothing does; answers how many messages were posted.
 fn agree<W: Wire<Block>>(
     n: usize,
-    records: &mut [Record<Block>],
-    rows: &mut [Row<Block>],
+    tables: &mut Tables<Block>,
     wire: &mut W,
 ) -> anyhow::Result<usize> {
-    let own = [Block {
-        first: 100,
-        count: 50,
-        party: 1,
-    }; 64];
-    let mut ring = Ring::new();
-    if set_up(&mut ring, n as u64, 0, 0, &own, records, rows, wire).is_err() {
-        return Err(anyhow!("set-up was refused"));
-    }
+    tables.ring = Ring::new();
+    let _answer = set_up(&plan_of(n, &OWN), tables, wire).context("set-up was refused")?;
     let mut posts = wire.count();
     for _ in 0..PLACES {
         if wire.count() == 0 {
             return Ok(posts);
         }
-        let Ok(more) = hand(&ring, records, rows, wire, 0) else {
-            return Err(anyhow!("a hand was refused"));
-        };
+        let more = hand(tables, wire, 0).context("a hand was refused")?;
         posts = posts.saturating_add(more);
     }
-    Err(anyhow!("the agreement did not end"))
+    bail!("the agreement did not end")
 }
 
 // So many agreements over one wire; answers the posts of the last.
 fn agree_often<W: Wire<Block>>(
+    heap: Global,
     n: usize,
     often: usize,
-    records: &mut [Record<Block>],
-    rows: &mut [Row<Block>],
     wire: &mut W,
 ) -> anyhow::Result<usize> {
+    let mut places = Places::new(heap, PARTIES)?;
+    let mut tables = places.tables();
     let mut posts = 0;
     for _ in 0..often {
-        posts = agree(n, records, rows, wire)?;
+        posts = agree(n, &mut tables, wire)?;
     }
     Ok(posts)
-}
-
-fn over_table(rt: &HostRuntime, n: usize, often: usize) -> anyhow::Result<usize> {
-    let heap = rt.alloc();
-    let mut records = filled(heap, blank_record::<Block>(), PARTIES)?;
-    let mut rows = filled(heap, blank_row::<Block>(), PARTIES * PARTIES)?;
-    let mut table = filled(heap, fixed_request::<Block>(), PLACES)?;
-    let mut wire = TableWire::new(table.as_mut_slice());
-    agree_often(
-        n,
-        often,
-        records.as_mut_slice(),
-        rows.as_mut_slice(),
-        &mut wire,
-    )
-}
-
-fn over_frames(rt: &HostRuntime, n: usize, often: usize) -> anyhow::Result<usize> {
-    let heap = rt.alloc();
-    let mut records = filled(heap, blank_record::<Block>(), PARTIES)?;
-    let mut rows = filled(heap, blank_row::<Block>(), PARTIES * PARTIES)?;
-    let mut buffer = filled(heap, 0u8, PLACES * 48)?;
-    let mut wire = FrameWire::new(buffer.as_mut_slice());
-    agree_often(
-        n,
-        often,
-        records.as_mut_slice(),
-        rows.as_mut_slice(),
-        &mut wire,
-    )
 }
 
 // How many messages an agreement of n honest parties has.
@@ -111,79 +90,95 @@ fn posts_of(n: usize) -> usize {
 // The same agreement as a whole shift: set-up, and then so many hands of what waits first. Nothing may be left over.
 fn agree_by_shift<W: Wire<Block>>(
     n: usize,
-    records: &mut [Record<Block>],
-    rows: &mut [Row<Block>],
+    tables: &mut Tables<Block>,
     wire: &mut W,
     calls: &[Call<Block>],
 ) -> anyhow::Result<()> {
-    let own = [Block {
-        first: 100,
-        count: 50,
-        party: 1,
-    }; 64];
-    let mut ring = Ring::new();
-    match run_shift(&mut ring, n as u64, 0, 0, &own, records, rows, wire, calls) {
-        Ok(0) if wire.count() == 0 => Ok(()),
-        Ok(_) => Err(anyhow!("an agreement has another number of messages")),
-        Err(_) => Err(anyhow!("set-up was refused")),
-    }
+    tables.ring = Ring::new();
+    let refused = run_shift(&plan_of(n, &OWN), tables, wire, calls).context("set-up was refused")?;
+    ensure!(
+        refused == 0 && wire.count() == 0,
+        "an agreement has another number of messages"
+    );
+    Ok(())
 }
 
+// The same number of agreements, each as one shift; answers the calls of each.
 fn shift_often<W: Wire<Block>>(
     heap: Global,
     n: usize,
     often: usize,
     wire: &mut W,
-) -> anyhow::Result<()> {
-    let mut records = filled(heap, blank_record::<Block>(), PARTIES)?;
-    let mut rows = filled(heap, blank_row::<Block>(), PARTIES * PARTIES)?;
-    let calls = filled(heap, Call::Hand(0), posts_of(n))?;
+) -> anyhow::Result<usize> {
+    let calls = vec![in heap; Call::Hand(0); posts_of(n)]?;
+    let mut places = Places::new(heap, PARTIES)?;
+    let mut tables = places.tables();
     for _ in 0..often {
-        agree_by_shift(
-            n,
-            records.as_mut_slice(),
-            rows.as_mut_slice(),
-            wire,
-            calls.as_slice(),
-        )?;
+        agree_by_shift(n, &mut tables, wire, calls.as_slice())?;
     }
-    Ok(())
+    Ok(calls.len())
 }
 
-fn shift_over_table(rt: &HostRuntime, n: usize, often: usize) -> anyhow::Result<()> {
-    let heap = rt.alloc();
-    let mut table = filled(heap, fixed_request::<Block>(), PLACES)?;
-    let mut wire = TableWire::new(table.as_mut_slice());
-    shift_often(heap, n, often, &mut wire)
+// Runs over a new wire of a table of messages.
+fn over_table<F: FnOnce(&mut TableWire<Block>) -> anyhow::Result<usize>>(
+    heap: Global,
+    run: F,
+) -> anyhow::Result<usize>
+    requires { F.IsAlwaysCallable run }
+{
+    let mut table = vec![in heap; fixed_request::<Block>(); PLACES]?;
+    run(&mut TableWire::new(table.as_mut_slice()))
 }
 
-fn shift_over_frames(rt: &HostRuntime, n: usize, often: usize) -> anyhow::Result<()> {
-    let heap = rt.alloc();
-    let mut buffer = filled(heap, 0u8, PLACES * 48)?;
-    let mut wire = FrameWire::new(buffer.as_mut_slice());
-    shift_often(heap, n, often, &mut wire)
+// Runs over a new wire of a buffer of frames.
+fn over_frames<F: FnOnce(&mut FrameWire<Block>) -> anyhow::Result<usize>>(
+    heap: Global,
+    run: F,
+) -> anyhow::Result<usize>
+    requires { F.IsAlwaysCallable run }
+{
+    let mut buffer = vec![in heap; 0u8; PLACES * frame_length::<Block>()]?;
+    run(&mut FrameWire::new(buffer.as_mut_slice()))
 }
 
 fn print_posts(rt: &HostRuntime, n: usize) -> anyhow::Result<()> {
-    let by_table = over_table(rt, n, 1)?;
-    let by_frames = over_frames(rt, n, 1)?;
+    let heap = rt.alloc();
+    let by_table = over_table(heap, |wire| agree_often(heap, n, 1, wire))?;
+    let by_frames = over_frames(heap, |wire| agree_often(heap, n, 1, wire))?;
     println!(rt; "parties={n} posts={by_table} over a table, {by_frames} over frames")?;
     Ok(())
 }
 
-fn print_times(rt: &HostRuntime, n: usize, often: usize) -> anyhow::Result<()> {
+// Runs, and answers what that gives and the microseconds that it takes.
+fn timed<F: FnOnce() -> anyhow::Result<usize>>(
+    rt: &HostRuntime,
+    run: F,
+) -> anyhow::Result<(usize, u128)>
+    requires { F.IsAlwaysCallable run }
+{
     let start = Instant::now(rt)?;
-    let posts = over_table(rt, n, often)?;
-    let table = start.elapsed(rt)?.as_micros();
-    let again = Instant::now(rt)?;
-    let _ = over_frames(rt, n, often)?;
-    let frames = again.elapsed(rt)?.as_micros();
-    let third = Instant::now(rt)?;
-    shift_over_table(rt, n, often)?;
-    let shift_table = third.elapsed(rt)?.as_micros();
-    let last = Instant::now(rt)?;
-    shift_over_frames(rt, n, often)?;
-    let shift_frames = last.elapsed(rt)?.as_micros();
+    let answer = run()?;
+    Ok((answer, start.elapsed(rt)?.as_micros()))
+}
+
+fn print_times(rt: &HostRuntime, n: usize, often: usize) -> anyhow::Result<()> {
+    let heap = rt.alloc();
+    let (posts, table) = timed(
+        rt,
+        || over_table(heap, |wire| agree_often(heap, n, often, wire)),
+    )?;
+    let (_, frames) = timed(
+        rt,
+        || over_frames(heap, |wire| agree_often(heap, n, often, wire)),
+    )?;
+    let (_, shift_table) = timed(
+        rt,
+        || over_table(heap, |wire| shift_often(heap, n, often, wire)),
+    )?;
+    let (_, shift_frames) = timed(
+        rt,
+        || over_frames(heap, |wire| shift_often(heap, n, often, wire)),
+    )?;
     println!(rt;
         "parties={n} agreements={often} posts={posts} table_us={table} frames_us={frames} shift_table_us={shift_table} shift_frames_us={shift_frames}"
     )?;
@@ -207,7 +202,7 @@ fn run(rt: &HostRuntime) -> anyhow::Result<()> {
         return print_sizes(rt);
     }
     let (Some(n), Some(often)) = (args.next(), args.next()) else {
-        return Err(anyhow!("give the word time, a number of parties and a number of agreements"));
+        bail!("give the word time, a number of parties and a number of agreements");
     };
     print_times(
         rt,

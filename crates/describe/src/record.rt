@@ -1,39 +1,37 @@
 // What a step changed in a party's record, in plain words.
-use crate::message::Readable;
 use rows::keys::Keyed;
 use rows::record::{Proposal, Record};
+use std::fmt::Display;
+use values::value::Value;
 
-fn print_key<V: Readable>(
+fn print_key<V: Value + Display>(
     rt: &HostRuntime,
     name: &str,
     old: &Keyed<V>,
     new: &Keyed<V>,
 ) -> anyhow::Result<()> {
-    if old.at == new.at {
-        return Ok(());
+    if old.at != new.at {
+        let at = new.at;
+        let value = &new.value;
+        println!(rt; "    {name} is now {at}, {value}")?;
     }
-    let at = new.at;
-    print!(rt; "    {name} is now {at}, ")?;
-    new.value.tell(rt)?;
-    println!(rt; "")?;
     Ok(())
 }
 
 // What is new where there was nothing before.
-fn print_new<V: Readable>(
+fn print_new<V: Value + Display>(
     rt: &HostRuntime,
     what: &str,
     old: &Option<V>,
     new: &Option<V>,
 ) -> anyhow::Result<()> {
     if let (None, Some(value)) = (old, new) {
-        print!(rt; "    {what} ")?;
-        value.tell(rt)?;
-        println!(rt; "")?;
+        println!(rt; "    {what} {value}")?;
     }
     Ok(())
 }
 
+// The names of a listing, not of the type.
 fn proposal_name<V>(proposal: &Proposal<V>) -> &'static str {
     match proposal {
         Proposal::Nothing => "none",
@@ -43,19 +41,8 @@ fn proposal_name<V>(proposal: &Proposal<V>) -> &'static str {
     }
 }
 
-// Whether a proposal is in another state than before.
-fn moved_on<V>(old: &Proposal<V>, new: &Proposal<V>) -> bool {
-    match (old, new) {
-        (Proposal::Nothing, Proposal::Nothing) => false,
-        (Proposal::Waiting(_), Proposal::Waiting(_)) => false,
-        (Proposal::Echoed(_), Proposal::Echoed(_)) => false,
-        (Proposal::Dropped, Proposal::Dropped) => false,
-        _ => true,
-    }
-}
-
 // Each part of the record that is another than before.
-pub fn print_change<V: Readable>(
+pub fn print_change<V: Value + Display>(
     rt: &HostRuntime,
     old: &Record<V>,
     new: &Record<V>,
@@ -68,8 +55,8 @@ pub fn print_change<V: Readable>(
     print_key(rt, "key2", &old.key2, &new.key2)?;
     print_key(rt, "key3", &old.key3, &new.key3)?;
     print_key(rt, "lock", &old.lock, &new.lock)?;
-    if moved_on(&old.proposal, &new.proposal) {
-        let state = proposal_name(&new.proposal);
+    let state = proposal_name(&new.proposal);
+    if proposal_name(&old.proposal) != state {
         println!(rt; "    the proposal is now {state}")?;
     }
     print_new(rt, "has sent done for", &old.done, &new.done)?;

@@ -5,18 +5,13 @@
 #![tactic(auto)]
 
 mod end;
-mod shape;
 mod steps;
 
 use crate::end::{print_end, print_stop};
-use crate::shape::Shape;
 use crate::steps::walk_steps;
-use anyhow::anyhow;
-use describe::blank::{blank_record, blank_row, filled};
-use describe::message::Readable;
-use messages::message::Message;
-use rows::record::Record;
-use rows::row::Row;
+use anyhow::Context;
+use describe::blank::Places;
+use describe::plan::{CAPACITY, MOST_PARTIES, plan_of};
 use sheet::reader::{calls, read};
 use sheet::setup::{Plan, Setup};
 use sheet_lines::call::Call as Line;
@@ -24,19 +19,19 @@ use sheet_print::value_text::ValueText;
 use shift::call::Call;
 use shift::shift::run_shift;
 use std::alloc::{AllocError, Global};
+use std::fmt::Display;
 use std::io::Read;
 use std::{env, fs};
 use table_wire::table::TableWire;
-use tables::ring::Ring;
+use tables::tables::Tables;
 use values::value::Value;
 use wires::fixed::fixed_request;
+use wires::wire::Wire;
 
-// How many messages the wire of a sheet's ring holds, and how many parties a sheet may have.
-const CAPACITY: usize = 1000;
+// The refusal of an unreadable sheet.
+const UNREADABLE: u8 = 8;
 
-const MOST_PARTIES: usize = 8;
-
-// A line of a sheet as a call on the ring. A number beyond any place finds no message.
+// Not a From, since both types are of other crates. A line of a sheet as a call on the ring. A number beyond any place finds no message.
 fn call_of<V: Value>(line: &Line) -> Call<V> {
     match line {
         Line::Hand(place) => Call::Hand(*place as usize),
@@ -46,6 +41,7 @@ fn call_of<V: Value>(line: &Line) -> Call<V> {
     }
 }
 
+// A loop: a map by a function whose result names the kind of value has no proof yet.
 fn ring_calls<V: Value>(heap: Global, lines: &[Line]) -> Result<Vec<Call<V>>, AllocError> {
     let mut calls = Vec::new(heap);
     for line in lines {
@@ -54,115 +50,72 @@ fn ring_calls<V: Value>(heap: Global, lines: &[Line]) -> Result<Vec<Call<V>>, Al
     Ok(calls)
 }
 
-fn shape_of<V>(setup: &Setup<V>) -> Shape {
-    Shape {
-        parties: setup.parties,
-        faults: setup.faults,
-        faulty: setup.faulty,
-    }
-}
-
 // Runs the shift over these tables, and prints its end.
-fn run_over<V: ValueText>(
+fn run_over<V: ValueText, W: Wire<V>>(
     rt: &HostRuntime,
-    shape: Shape,
-    own: &[V],
+    setup: &Setup<V>,
     calls: &[Call<V>],
-    records: &mut [Record<V>],
-    rows: &mut [Row<V>],
-    table: &mut [Message<V>],
+    tables: &mut Tables<V>,
+    wire: &mut W,
 ) -> anyhow::Result<()> {
-    let mut ring = Ring::new();
-    let mut wire = TableWire::new(table);
-    match run_shift(
-        &mut ring,
-        shape.parties,
-        shape.faults,
-        shape.faulty,
-        own,
-        records,
-        rows,
-        &mut wire,
-        calls,
-    ) {
-        Ok(refused) => print_end(rt, &ring, records, rows, &wire, calls.len(), refused),
-        Err(refusal) => print_stop(rt, refusal.number(), 0),
+    match run_shift(&plan_of(setup), tables, wire, calls) {
+        Ok(refused) => print_end(rt, tables, wire, calls.len(), refused),
+        Err(refusal) => print_stop(rt, refusal.number(), None),
     }
 }
 
-fn run_setup<V: ValueText + Readable>(
+// Whether each step is shown is the word of the command line, handed down to where the wire is.
+fn run_setup<V: ValueText + Display>(
     rt: &HostRuntime,
-    shape: Shape,
-    own: &[V],
+    setup: &Setup<V>,
     lines: &[Line],
     steps: bool,
 ) -> anyhow::Result<()> {
     let heap = rt.alloc();
-    let mut records = filled(heap, blank_record::<V>(), MOST_PARTIES)?;
-    let mut rows = filled(heap, blank_row::<V>(), MOST_PARTIES * MOST_PARTIES)?;
-    let mut table = filled(heap, fixed_request::<V>(), CAPACITY)?;
+    let mut places = Places::new(heap, MOST_PARTIES)?;
+    let mut table = vec![in heap; fixed_request::<V>(); CAPACITY]?;
+    let mut tables = places.tables();
+    let mut wire = TableWire::new(table.as_mut_slice());
     let calls = ring_calls::<V>(heap, lines)?;
     if steps {
-        walk_steps(
-            rt,
-            shape,
-            own,
-            calls.as_slice(),
-            records.as_mut_slice(),
-            rows.as_mut_slice(),
-            table.as_mut_slice(),
-        )
+        walk_steps(rt, setup, calls.as_slice(), &mut tables, &mut wire)
     } else {
-        run_over(
-            rt,
-            shape,
-            own,
-            calls.as_slice(),
-            records.as_mut_slice(),
-            rows.as_mut_slice(),
-            table.as_mut_slice(),
-        )
+        run_over(rt, setup, calls.as_slice(), &mut tables, &mut wire)
     }
 }
 
 fn run_sheet(rt: &HostRuntime, bytes: &[u8], steps: bool) -> anyhow::Result<()> {
     let plan = match read(bytes) {
         Ok(plan) => plan,
-        Err(fault) => return print_stop(rt, 8, fault.line),
+        Err(fault) => return print_stop(rt, UNREADABLE, Some(fault.line)),
     };
-    let Ok(lines) = calls(rt.alloc(), bytes) else {
-        return Err(anyhow!("no memory for the calls of the sheet"));
-    };
+    let lines = calls(rt.alloc(), bytes).context("no memory for the calls of the sheet")?;
+    // an arm for each kind of value, since each is another type
     match plan {
-        Plan::Blocks(setup) => run_setup(rt, shape_of(&setup), &setup.own, lines.as_slice(), steps),
-        Plan::Orders(setup) => run_setup(rt, shape_of(&setup), &setup.own, lines.as_slice(), steps),
+        Plan::Blocks(setup) => run_setup(rt, &setup, lines.as_slice(), steps),
+        Plan::Orders(setup) => run_setup(rt, &setup, lines.as_slice(), steps),
     }
+}
+
+fn read_input(rt: &HostRuntime) -> anyhow::Result<Vec<u8>> {
+    let mut bytes = Vec::new(rt.alloc());
+    let _count = rt.stdin().read_to_end(&mut bytes)?;
+    Ok(bytes)
 }
 
 fn run(rt: &HostRuntime) -> anyhow::Result<()> {
     let mut args = env::args(rt)?;
     let _ = args.next();
-    let mut word = args.next();
-    let mut steps = false;
-    if let Some(first) = &word {
-        if first.as_str() == "--steps" {
-            steps = true;
-        }
-    }
+    let mut path = args.next();
+    let steps = path.as_ref().is_some_and(|word| word.as_str() == "--steps");
     if steps {
-        word = args.next();
+        path = args.next();
     }
-    match word {
-        Some(path) => {
-            let bytes = fs::read(rt, path.as_str())?;
-            run_sheet(rt, bytes.as_slice(), steps)
-        }
-        None => {
-            let mut input = Vec::new(rt.alloc());
-            rt.stdin().read_to_end(&mut input)?;
-            run_sheet(rt, input.as_slice(), steps)
-        }
-    }
+    let bytes = match path {
+        Some(path) => fs::read(rt, path.as_str())?,
+        None => read_input(rt)?,
+    };
+    run_sheet(rt, bytes.as_slice(), steps)
 }
 
 fn main(rt: HostRuntime) -> anyhow::Result<()> {

@@ -16,50 +16,31 @@ use crate::refusals::show_refusals;
 use crate::samples::{block_messages, order_messages, request};
 use crate::sheets_walk::walk_sheets;
 use crate::wires_walk::walk_wire;
-use anyhow::anyhow;
-use describe::blank::{blank_record, blank_row};
-use describe::message::Readable;
+use anyhow::ensure;
+use describe::blank::Places;
 use frame_wire::buffer::FrameWire;
 use frames::codec::frame_length;
 use messages::message::Message;
+use std::fmt::Display;
 use table_wire::table::TableWire;
 use values::block::Block;
 use values::order::Order;
+use values::value::Value;
 
-fn walk_table<V: Readable>(
+// The same messages over both wires. Each wire has room for two, and the last message is out of
+// range, so that a full wire and a bad field are refused on the way.
+fn walk_both_wires<V: Value + Display>(
     rt: &HostRuntime,
     table: &mut [Message<V>],
     messages: &[Message<V>],
 ) -> anyhow::Result<()> {
     println!(rt; "over a wire of a table of messages:")?;
-    let mut wire = TableWire::new(table);
-    walk_wire(rt, &mut wire, messages)
-}
-
-fn walk_buffer<V: Readable>(
-    rt: &HostRuntime,
-    buffer: &mut [u8],
-    messages: &[Message<V>],
-) -> anyhow::Result<()> {
-    println!(rt; "over a wire of a byte buffer of frames:")?;
-    let mut wire = FrameWire::new(buffer);
-    walk_wire(rt, &mut wire, messages)
-}
-
-// The same messages over both wires. Each wire has room for two, and the last message is out of
-// range, so that a full wire and a bad field are refused on the way.
-fn walk_both_wires<V: Readable>(
-    rt: &HostRuntime,
-    table: &mut [Message<V>],
-    messages: &[Message<V>],
-) -> anyhow::Result<()> {
-    walk_table(rt, table, messages)?;
+    walk_wire(rt, &mut TableWire::new(table), messages)?;
     let mut buffer = [0u8; 100];
     let size = 2 * frame_length::<V>();
-    if size > 100 {
-        return Err(anyhow!("a buffer too short for two frames"));
-    }
-    walk_buffer(rt, &mut buffer[0..size], messages)
+    ensure!(size <= 100, "a buffer too short for two frames");
+    println!(rt; "over a wire of a byte buffer of frames:")?;
+    walk_wire(rt, &mut FrameWire::new(&mut buffer[0..size]), messages)
 }
 
 fn walk(rt: &HostRuntime) -> anyhow::Result<()> {
@@ -76,10 +57,9 @@ fn walk(rt: &HostRuntime) -> anyhow::Result<()> {
     println!(rt; "== refusals")?;
     show_refusals(rt)?;
     println!(rt; "== one party alone")?;
-    let mut records = [blank_record(); 1];
-    let mut rows = [blank_row(); 1];
+    let mut places = Places::new(rt.alloc(), 1)?;
     let mut table = [request::<Block>(1, 1, 1); 20];
-    walk_alone(rt, &mut records, &mut rows, &mut table)?;
+    walk_alone(rt, &mut places.tables(), &mut table)?;
     println!(rt; "== run sheets")?;
     walk_sheets(rt)
 }

@@ -12,10 +12,7 @@ fn print_answer(
 ) -> anyhow::Result<()> {
     match answer {
         Ok(length) => println!(rt; "{what}: accepted, {length} bytes")?,
-        Err(fault) => {
-            let number = fault.number();
-            println!(rt; "{what}: refused with {number}")?;
-        }
+        Err(fault) => println!(rt; "{what}: refused with {}", fault.number())?,
     }
     Ok(())
 }

@@ -1,4 +1,5 @@
 // The messages that the walk sends.
+use messages::kind::Kind;
 use messages::message::Message;
 use values::block::Block;
 use values::order::Order;
@@ -8,15 +9,8 @@ use values::value::Value;
 // A message that uses the view alone.
 pub(crate) fn request<V: Value>(from: u8, to: u8, view: u32) -> Message<V> {
     Message {
-        kind: 1,
-        from,
-        to,
         view,
-        key: 0,
-        value: V::blank(),
-        second_key: 0,
-        second_value: V::blank(),
-        previous: Some(0),
+        ..Message::empty(Kind::Request, from, to)
     }
 }
 
@@ -30,30 +24,20 @@ pub(crate) fn proof<V: Value>(
     previous: Option<u32>,
 ) -> Message<V> {
     Message {
-        kind: 3,
-        from,
-        to,
         view,
         key,
         value,
-        second_key: 0,
-        second_value: V::blank(),
         previous,
+        ..Message::empty(Kind::Proof, from, to)
     }
 }
 
 // An echo of a value.
 pub(crate) fn echo<V: Value>(from: u8, to: u8, view: u32, value: V) -> Message<V> {
     Message {
-        kind: 5,
-        from,
-        to,
         view,
-        key: 0,
         value,
-        second_key: 0,
-        second_value: V::blank(),
-        previous: Some(0),
+        ..Message::empty(Kind::Echo, from, to)
     }
 }
 
@@ -79,10 +63,7 @@ pub(crate) fn block_messages() -> [Message<Block>; 4] {
 
 // Messages about orders; the second is a proof with the fastest pace and no key yet, the last has no receiver.
 pub(crate) fn order_messages() -> [Message<Order>; 4] {
-    let pace = match Rate::new(600) {
-        Some(rate) => Order::Pace(rate),
-        None => Order::Hold,
-    };
+    let pace = Rate::new(600).map_or(Order::Hold, Order::Pace);
     [
         echo(2, 3, 1, Order::Resume),
         proof(1, 4, 3, 0, pace, None),

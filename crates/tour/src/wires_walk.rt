@@ -1,51 +1,56 @@
 // Messages travel over a wire, whichever it is.
-use describe::message::{Readable, print_message};
 use messages::message::Message;
+use std::fmt::Display;
+use values::value::Value;
+use wires::fault::WireFault;
 use wires::wire::Wire;
 
-fn print_state<V: Readable, W: Wire<V>>(rt: &HostRuntime, wire: &W) -> anyhow::Result<()> {
+fn print_state<V: Value + Display, W: Wire<V>>(rt: &HostRuntime, wire: &W) -> anyhow::Result<()> {
     let count = wire.count();
     let room = wire.room();
     println!(rt; "  {count} waiting, room for {room}")?;
     Ok(())
 }
 
+// Prints the message at a place, with words around the place, or the refusal.
+fn print_place<V: Value + Display>(
+    rt: &HostRuntime,
+    before: &str,
+    place: usize,
+    after: &str,
+    answer: Result<Message<V>, WireFault>,
+) -> anyhow::Result<()> {
+    match answer {
+        Ok(m) => println!(rt; "  {before}place {place}{after} {m}")?,
+        Err(fault) => println!(rt; "  place {place} refused with {}", fault.number())?,
+    }
+    Ok(())
+}
+
 // Takes out one place and prints what was there, or the refusal.
-fn take_and_print<V: Readable, W: Wire<V>>(
+fn take_and_print<V: Value + Display, W: Wire<V>>(
     rt: &HostRuntime,
     wire: &mut W,
     place: usize,
 ) -> anyhow::Result<()> {
-    match wire.take_out(place) {
-        Ok(m) => {
-            print!(rt; "  took out place {place}: ")?;
-            print_message(rt, &m)?;
-        }
-        Err(fault) => {
-            let number = fault.number();
-            println!(rt; "  place {place} refused with {number}")?;
-        }
-    }
+    print_place(rt, "took out ", place, ":", wire.take_out(place))?;
     print_state(rt, wire)
 }
 
-fn post_and_print<V: Readable, W: Wire<V>>(
+fn post_and_print<V: Value + Display, W: Wire<V>>(
     rt: &HostRuntime,
     wire: &mut W,
     m: &Message<V>,
 ) -> anyhow::Result<()> {
     match wire.post(m) {
-        Ok(()) => print!(rt; "  posted: ")?,
-        Err(fault) => {
-            let number = fault.number();
-            print!(rt; "  refused with {number}: ")?;
-        }
+        Ok(()) => println!(rt; "  posted: {m}")?,
+        Err(fault) => println!(rt; "  refused with {}: {m}", fault.number())?,
     }
-    print_message(rt, m)
+    Ok(())
 }
 
 // Posts all messages, looks at the second, and takes them out in another order until none is left.
-pub(crate) fn walk_wire<V: Readable, W: Wire<V>>(
+pub(crate) fn walk_wire<V: Value + Display, W: Wire<V>>(
     rt: &HostRuntime,
     wire: &mut W,
     messages: &[Message<V>],
@@ -55,16 +60,7 @@ pub(crate) fn walk_wire<V: Readable, W: Wire<V>>(
         post_and_print(rt, wire, m)?;
     }
     print_state(rt, wire)?;
-    match wire.look(1) {
-        Ok(m) => {
-            print!(rt; "  place 1 holds ")?;
-            print_message(rt, &m)?;
-        }
-        Err(fault) => {
-            let number = fault.number();
-            println!(rt; "  place 1 refused with {number}")?;
-        }
-    }
+    print_place(rt, "", 1, " holds", wire.look(1))?;
     take_and_print(rt, wire, 1)?;
     take_and_print(rt, wire, 0)?;
     take_and_print(rt, wire, 0)

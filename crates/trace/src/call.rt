@@ -1,21 +1,13 @@
-// The calls of a shift, and the lines that name them.
-use crate::hexadecimal::read_bytes;
-use anyhow::anyhow;
+// The lines of a shift that name its calls.
+use anyhow::{Context, bail};
+use frames::codec::read_frame;
+use frames::fault::FrameFault;
 use sheet_fields::number::read_number;
+use shift::call::Call;
 use std::alloc::Global;
+use values::value::Value;
 
-#[derive(Drop)]
-pub(crate) enum Call {
-    // a place of the wire, counted from 0
-    Hand(usize),
-    Repeat(usize),
-    Lose(usize),
-    // the number of a party
-    Timer(u64),
-    // the bytes of what should be a frame from a faulty party
-    Send(Vec<u8>),
-}
-
+// Not the reader of run sheets: a shift may send, and its lines may be of any length.
 // Whether the line names a call, so that the set-up ends before it.
 pub(crate) fn is_call(line: &str) -> bool {
     line.starts_with("hand=")
@@ -25,22 +17,27 @@ pub(crate) fn is_call(line: &str) -> bool {
         || line.starts_with("send=")
 }
 
-// Numbers are written as in a run sheet.
-pub(crate) fn read_call(heap: Global, line: &str) -> anyhow::Result<Call> {
-    let Some((name, rest)) = line.split_once('=') else {
-        return Err(anyhow!("a line of a shift has no name"));
-    };
+// The call that a line names, or why the bytes of a send are no frame. Numbers are written as in a run sheet.
+pub(crate) fn read_call<V: Value>(
+    heap: Global,
+    line: &str,
+) -> anyhow::Result<Result<Call<V>, FrameFault>> {
+    let (name, rest) = line
+        .split_once('=')
+        .context("a line of a shift has no name")?;
     if name == "send" {
-        return Ok(Call::Send(read_bytes(heap, rest)?));
+        let bytes = hex::decode(heap, rest.as_bytes()).context(
+            "a frame is not written in pairs of hexadecimal digits",
+        )?;
+        return Ok(read_frame(bytes.as_slice()).map(Call::Send));
     }
-    let Ok(number) = read_number(rest.as_bytes()) else {
-        return Err(anyhow!("a call of a shift has no number"));
+    let number = read_number(rest.as_bytes()).context("a call of a shift has no number")?;
+    let call = match name {
+        "hand" => Call::Hand(number as usize),
+        "repeat" => Call::Repeat(number as usize),
+        "lose" => Call::Lose(number as usize),
+        "timer" => Call::Timer(number),
+        _ => bail!("a line of a shift names no call"),
     };
-    match name {
-        "hand" => Ok(Call::Hand(number as usize)),
-        "repeat" => Ok(Call::Repeat(number as usize)),
-        "lose" => Ok(Call::Lose(number as usize)),
-        "timer" => Ok(Call::Timer(number)),
-        _ => Err(anyhow!("a line of a shift names no call")),
-    }
+    Ok(Ok(call))
 }

@@ -1,11 +1,14 @@
 // Why a call of a shift is refused: its bytes are no frame, or the ring refuses it.
 use frames::fault::FrameFault;
 use tables::refusal::Refusal;
+use thiserror::Error;
 
-#[derive(Clone, Copy)]
+#[derive(Clone, Copy, PartialEq, Eq, Debug, Error)]
 pub(crate) enum CallFault {
-    Frame(FrameFault),
-    Ring(Refusal),
+    #[error("{0}")]
+    Frame(#[from] FrameFault),
+    #[error("{0}")]
+    Ring(#[from] Refusal),
 }
 
 impl CallFault {
@@ -14,17 +17,5 @@ impl CallFault {
             CallFault::Frame(fault) => fault.number(),
             CallFault::Ring(refusal) => refusal.number(),
         }
-    }
-}
-
-impl From<FrameFault> for CallFault {
-    fn from(fault: FrameFault) -> CallFault {
-        CallFault::Frame(fault)
-    }
-}
-
-impl From<Refusal> for CallFault {
-    fn from(refusal: Refusal) -> CallFault {
-        CallFault::Ring(refusal)
     }
 }

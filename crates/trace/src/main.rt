@@ -4,38 +4,35 @@
 #![tactic(auto)]
 
 mod call;
-mod end;
 mod fault;
-mod hexadecimal;
 mod posts;
-mod shape;
-mod shift;
+mod shift_text;
 mod trace;
 
-use crate::shift::read_shift;
 use crate::trace::trace_of;
 use std::{env, fs, io};
 
 fn print_trace(rt: &HostRuntime, text: &str) -> anyhow::Result<()> {
-    let heap = rt.alloc();
-    let shift = read_shift(heap, text)?;
-    let trace = trace_of(heap, &shift)?;
+    let trace = trace_of(rt.alloc(), text)?;
     rt.print(trace.as_str())?;
     Ok(())
+}
+
+fn print_file(rt: &HostRuntime, path: &str) -> anyhow::Result<()> {
+    let text = fs::read_to_string(rt, path)?;
+    print_trace(rt, text.as_str())
 }
 
 fn run(rt: &HostRuntime) -> anyhow::Result<()> {
     let mut paths = env::args(rt)?;
     let _ = paths.next();
-    let mut named = false;
-    for path in paths {
-        named = true;
-        let text = fs::read_to_string(rt, path.as_str())?;
-        print_trace(rt, text.as_str())?;
-    }
-    if !named {
+    let Some(first) = paths.next() else {
         let text = io::read_to_string(rt.alloc(), rt.stdin())?;
-        print_trace(rt, text.as_str())?;
+        return print_trace(rt, text.as_str());
+    };
+    print_file(rt, first.as_str())?;
+    for path in paths {
+        print_file(rt, path.as_str())?;
     }
     Ok(())
 }
