@@ -27,7 +27,7 @@ fn own_in_order<V: Value>(ring: &Ring, own: &[V], party: u8) -> bool
     is_named(ring.faulty, party) || own[party as usize - 1].allowed()
 }
 
-// A loop and not `all`: a closure would not have the bounds of the number that the test of one party needs.
+// A loop and not `all`, whose proof over a range of numbers did not close.
 // Whether every honest party's own value is allowed, where there are enough of them.
 pub fn owns_in_order<V: Value>(ring: &Ring, own: &[V]) -> bool
     ensures { ring.now.n ≤ length own.now → result ≡ every (λ i. named ring.now.faulty i || V.allows (own_of (map V.bytes own.now) i)) ring.now.n }

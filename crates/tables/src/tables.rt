@@ -78,7 +78,7 @@ fn party_in_order<V: Value>(tables: &Tables<V>, party: u8) -> bool
     )
 }
 
-// A loop and not `all`: a closure would not have the bounds of the number that the test of one party needs.
+// A loop and not `all`, whose proof over a range of numbers did not close.
 // Whether every honest party lies within its bounds.
 fn parties_in_order<V: Value>(tables: &Tables<V>) -> bool
     requires { (tables.now.ring.n ≤ length tables.now.records.now) × (tables.now.ring.n * tables.now.ring.n ≤ length tables.now.rows.now) }
