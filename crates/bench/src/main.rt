@@ -53,13 +53,15 @@ fn agree<W: Wire<Block>>(
     wire: &mut W,
 ) -> anyhow::Result<usize> {
     tables.ring = Ring::new();
-    let _answer = set_up(&plan_of(n, &OWN), tables, wire).context("set-up was refused")?;
+    let _answer = set_up(&plan_of(n, &OWN), tables, wire)
+        .ok()
+        .context("set-up was refused")?;
     let mut posts = wire.count();
     for _ in 0..PLACES {
         if wire.count() == 0 {
             return Ok(posts);
         }
-        let more = hand(tables, wire, 0).context("a hand was refused")?;
+        let more = hand(tables, wire, 0).ok().context("a hand was refused")?;
         posts = posts.saturating_add(more);
     }
     bail!("the agreement did not end")
@@ -95,7 +97,9 @@ fn agree_by_shift<W: Wire<Block>>(
     calls: &[Call<Block>],
 ) -> anyhow::Result<()> {
     tables.ring = Ring::new();
-    let refused = run_shift(&plan_of(n, &OWN), tables, wire, calls).context("set-up was refused")?;
+    let refused = run_shift(&plan_of(n, &OWN), tables, wire, calls)
+        .ok()
+        .context("set-up was refused")?;
     ensure!(
         refused == 0 && wire.count() == 0,
         "an agreement has another number of messages"
@@ -131,7 +135,7 @@ fn over_table<F: FnOnce(&mut TableWire<Block>) -> anyhow::Result<usize>>(
 }
 
 // Runs over a new wire of a buffer of frames.
-fn over_frames<F: FnOnce(&mut FrameWire<Block>) -> anyhow::Result<usize>>(
+fn over_frames<F: FnOnce(&mut FrameWire) -> anyhow::Result<usize>>(
     heap: Global,
     run: F,
 ) -> anyhow::Result<usize>

@@ -13,7 +13,10 @@ fn add_party<V: ValueText>(
     tables: &Tables<V>,
     party: u8,
 ) -> anyhow::Result<()> {
-    let shown = show(tables, u64::from(party)).context("a party of the ring was not shown")?;
+    let seen = tables.shared();
+    let shown = show(&seen.ring, seen.records, seen.rows, u64::from(party))
+        .ok()
+        .context("a party of the ring was not shown")?;
     let state = shown.state;
     let view = shown.view;
     let lock = shown.lock;

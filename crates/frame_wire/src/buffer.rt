@@ -14,7 +14,6 @@ ghost use Rattle.std.proofs.Common.{arith};
 use frames::codec::{frame_length, read_frame, write_frame_at};
 use messages::message::Message;
 use messages::range::in_range;
-use std::marker::PhantomData;
 use values::value::Value;
 use wires::fault::WireFault;
 use wires::fixed::fixed_request;
@@ -22,25 +21,20 @@ use wires::gap::close_gap;
 use wires::wire::Wire;
 
 // The first `count` places of the buffer wait, a frame each. Bytes that are no frame, which no
-// call leaves, mean one fixed request.
+// call leaves, mean one fixed request. The same bytes are a wire of each kind of value.
 #[derive(Drop)]
-pub struct FrameWire<'a, V> {
+pub struct FrameWire<'a> {
     buffer: &'a mut [u8],
     count: usize,
-    kind: PhantomData<V>,
 }
 
-impl<'a, V> FrameWire<'a, V> {
+impl<'a> FrameWire<'a> {
     // An empty wire whose capacity is how many frames fit whole into the buffer.
-    pub fn new(buffer: &'a mut [u8]) -> FrameWire<'a, V>
+    pub fn new(buffer: &'a mut [u8]) -> FrameWire<'a>
         ensures empty { (valid : List ℕ → Bool) (width : ℕ) → frames_in valid width result.count result.buffer.now ≡ [] }
         ensures size { (width : ℕ) → places width result.buffer.now ≡ places width buffer.old }
     {
-        FrameWire {
-            buffer,
-            count: 0,
-            kind: PhantomData,
-        }
+        FrameWire { buffer, count: 0 }
     }
 }
 
@@ -80,7 +74,19 @@ fn close_slot<V: Value>(buffer: &mut [u8], i: usize, count: usize)
     close_gap(buffer, i * size, size, count * size);
 }
 
-impl<'a, V: Value> Wire<V> for FrameWire<'a, V> {
+// Answers what place `i` means, and moves the later ones of the first `count` places up over it. Not by look, which
+// would hand the message on through a Result.
+fn take_slot<V: Value>(buffer: &mut [u8], i: usize, count: usize) -> Message<V>
+    requires { (i < count) × (count ≤ places V.width buffer.old) }
+    ensures value { message V.bytes result ≡ heard V.valid V.width (slot V.width buffer.old i) }
+    ensures after { buffer.new ≡ closed (frame_length V.width) buffer.old i count }
+{
+    let m = in_slot(buffer, i);
+    close_slot::<V>(buffer, i, count);
+    m
+}
+
+impl<'a, V: Value> Wire<V> for FrameWire<'a> {
     ghost waiting = { λ t. frames_in V.Value.valid V.Value.width t.count t.buffer.now };
 
     ghost capacity = { λ t. places V.Value.width t.buffer.now };
@@ -94,11 +100,11 @@ impl<'a, V: Value> Wire<V> for FrameWire<'a, V> {
     }
 
     fn room(&self) -> usize {
-        places_of::<V>(self.buffer.len()) - self.count()
+        places_of::<V>(self.buffer.len()) - Wire::<V>::count(self)
     }
 
     fn look(&self, i: usize) -> Result<Message<V>, WireFault> {
-        if i >= self.count() {
+        if i >= Wire::<V>::count(self) {
             return Err(WireFault::NoMessage);
         }
         Ok(in_slot(self.buffer, i))
@@ -118,9 +124,11 @@ impl<'a, V: Value> Wire<V> for FrameWire<'a, V> {
     }
 
     fn take_out(&mut self, i: usize) -> Result<Message<V>, WireFault> {
-        let m = self.look(i)?;
-        let count = self.count();
-        close_slot::<V>(self.buffer, i, count);
+        let count = Wire::<V>::count(self);
+        if i >= count {
+            return Err(WireFault::NoMessage);
+        }
+        let m = take_slot(self.buffer, i, count);
         self.count = count - 1;
         Ok(m)
     }

@@ -23,7 +23,7 @@ pub fn send_view<V: Value, W: Wire<V>>(party: &Party<V>, w: &mut W, kind: Kind, 
     ensures { Posted (W.waiting w.old) (W.waiting w.new) (W.capacity w.old) (W.capacity w.new) result (to_all (setting_of V.width V.allows party.now.seat) party.now.seat.me (view_msg (setting_of V.width V.allows party.now.seat) party.now.seat.me (kind_number kind) view)) }
 {
     let m = view_letter(party.seat, kind, view, party.seat.me);
-    post_each(party, w, Audience::All, &m)
+    post_each(party.seat, party.rows, w, Audience::All, &m)
 }
 
 // Sends done to all.
@@ -32,7 +32,7 @@ pub fn send_done<V: Value, W: Wire<V>>(party: &Party<V>, w: &mut W, value: &V) -
     ensures { Posted (W.waiting w.old) (W.waiting w.new) (W.capacity w.old) (W.capacity w.new) result (to_all (setting_of V.width V.allows party.now.seat) party.now.seat.me (vote_msg (setting_of V.width V.allows party.now.seat) party.now.seat.me 10 0 (V.bytes value.now))) }
 {
     let m = vote_letter(party.seat, Kind::Done, 0, value, party.seat.me);
-    post_each(party, w, Audience::All, &m)
+    post_each(party.seat, party.rows, w, Audience::All, &m)
 }
 
 // Makes the proof of the view.
@@ -41,7 +41,13 @@ pub fn make_proof<V: Value, W: Wire<V>>(party: &Party<V>, w: &mut W) -> usize
     ensures { Posted (W.waiting w.old) (W.waiting w.new) (W.capacity w.old) (W.capacity w.new) result (to_joined (setting_of V.width V.allows party.now.seat) party.now.seat.me (party_in V.bytes party.now) (proof_msg (setting_of V.width V.allows party.now.seat) party.now.seat.me party.now.own.now.view (record_of V.bytes party.now.own.now).proof)) }
 {
     let m = proof_letter(party.seat, party.own.view, &party.own.proof, party.seat.me);
-    post_each(party, w, Audience::Joined(party.own.view), &m)
+    post_each(
+        party.seat,
+        party.rows,
+        w,
+        Audience::Joined(party.own.view),
+        &m,
+    )
 }
 
 // Makes a propose.
@@ -50,7 +56,13 @@ pub fn make_propose<V: Value, W: Wire<V>>(party: &Party<V>, w: &mut W, offer: &K
     ensures { Posted (W.waiting w.old) (W.waiting w.new) (W.capacity w.old) (W.capacity w.new) result (to_joined (setting_of V.width V.allows party.now.seat) party.now.seat.me (party_in V.bytes party.now) (propose_msg (setting_of V.width V.allows party.now.seat) party.now.seat.me party.now.own.now.view (keyed_of V.bytes offer.now))) }
 {
     let m = propose_letter(party.seat, party.own.view, offer, party.seat.me);
-    post_each(party, w, Audience::Joined(party.own.view), &m)
+    post_each(
+        party.seat,
+        party.rows,
+        w,
+        Audience::Joined(party.own.view),
+        &m,
+    )
 }
 
 // Makes an echo, key1, key2, key3 or lock.
@@ -65,5 +77,11 @@ pub fn make_vote<V: Value, W: Wire<V>>(party: &Party<V>, w: &mut W, vote: Vote, 
         value,
         party.seat.me,
     );
-    post_each(party, w, Audience::Joined(party.own.view), &m)
+    post_each(
+        party.seat,
+        party.rows,
+        w,
+        Audience::Joined(party.own.view),
+        &m,
+    )
 }

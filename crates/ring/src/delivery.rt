@@ -22,7 +22,8 @@ fn deliver<V: Value, W: Wire<V>>(
     ensures gives { Gives (call (kind_of V.width V.valid V.allows) (ring_in V.bytes tables.old (W.waiting wire.old) (W.capacity wire.old)) (if keep then repeating place else handing place)) (answer_of result) (ring_in V.bytes tables.new (W.waiting wire.new) (W.capacity wire.new)) }
     ensures untouched { OnErr result ((tables.new.records.now ≡ tables.old.records.now) × (tables.new.rows.now ≡ tables.old.rows.now)) }
 {
-    if !tables_in_order(tables) {
+    let seen = tables.shared();
+    if !tables_in_order(&seen.ring, seen.records, seen.rows) {
         return Err(Refusal::Tables);
     }
     bring(tables, wire, place, keep)

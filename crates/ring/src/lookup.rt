@@ -6,16 +6,18 @@ ghost use Rattle.rows.specs.Meaning.{record_of};
 ghost use Rattle.agreement.specs.Calls.{Gives};
 ghost use Rattle.agreement.specs.Ring.{shown_party, tables_fit};
 ghost use Rattle.agreement.specs.Runs.{obey, call, show as showing};
-ghost use Rattle.tables.specs.Meaning.{ring_in};
+ghost use Rattle.tables.specs.Meaning.{ring_of};
 ghost use Rattle.turns.specs.Meaning.{kind_of};
 ghost use Rattle.ring.specs.Meaning.{shown_of, shown_answer};
 
 use crate::shown::{Shown, State};
 use members::members::has_party;
 use rows::record::Record;
+use rows::row::Row;
 use tables::liars::is_named;
 use tables::refusal::Refusal;
-use tables::tables::{Tables, tables_in_order};
+use tables::ring::Ring;
+use tables::tables::tables_in_order;
 use values::value::Value;
 
 // What is shown of an honest party.
@@ -35,14 +37,21 @@ fn shown_record<V: Value>(own: &Record<V>) -> Shown<V>
 }
 
 // Shows a party, over tables that fit. Nothing is changed.
-pub fn look_up<V: Value>(tables: &Tables<V>, party: u64) -> Result<Shown<V>, Refusal>
-    requires { true ≡ tables_fit (ring_in V.bytes tables.now [] 0) }
-    ensures { (wire : List Msg) (capacity : ℕ) → Gives (obey (kind_of V.width V.valid V.allows) (ring_in V.bytes tables.now wire capacity) (showing party)) (shown_answer V.bytes result) (ring_in V.bytes tables.now wire capacity) }
+pub fn look_up<V: Value>(
+    ring: &Ring,
+    records: &[Record<V>],
+    rows: &[Row<V>],
+    party: u64,
+) -> Result<Shown<V>, Refusal>
+    requires { true ≡ tables_fit (ring_of V.bytes ring.now records.now rows.now [] 0) }
+    ensures { (wire : List Msg) (capacity : ℕ) → Gives (obey (kind_of V.width V.valid V.allows) (ring_of V.bytes ring.now records.now rows.now wire capacity) (showing party)) (shown_answer V.bytes result) (ring_of V.bytes ring.now records.now rows.now wire capacity) }
 {
-    if !has_party(&tables.ring, party) {
+    // what is shown stands in the record alone; the rows are a part of the ring that the contract speaks of
+    let _ = rows;
+    if !has_party(ring, party) {
         return Err(Refusal::NoParty);
     }
-    if is_named(tables.ring.faulty, party as u8) {
+    if is_named(ring.faulty, party as u8) {
         return Ok(Shown {
             state: State::Faulty,
             view: 0,
@@ -50,16 +59,20 @@ pub fn look_up<V: Value>(tables: &Tables<V>, party: u64) -> Result<Shown<V>, Ref
             value: V::blank(),
         });
     }
-    let records = &*tables.records;
     Ok(shown_record(&records[party as usize - 1]))
 }
 
 // Shows a party. Nothing is changed.
-pub fn show<V: Value>(tables: &Tables<V>, party: u64) -> Result<Shown<V>, Refusal>
-    ensures { (wire : List Msg) (capacity : ℕ) → Gives (call (kind_of V.width V.valid V.allows) (ring_in V.bytes tables.now wire capacity) (showing party)) (shown_answer V.bytes result) (ring_in V.bytes tables.now wire capacity) }
+pub fn show<V: Value>(
+    ring: &Ring,
+    records: &[Record<V>],
+    rows: &[Row<V>],
+    party: u64,
+) -> Result<Shown<V>, Refusal>
+    ensures { (wire : List Msg) (capacity : ℕ) → Gives (call (kind_of V.width V.valid V.allows) (ring_of V.bytes ring.now records.now rows.now wire capacity) (showing party)) (shown_answer V.bytes result) (ring_of V.bytes ring.now records.now rows.now wire capacity) }
 {
-    if !tables_in_order(tables) {
+    if !tables_in_order(ring, records, rows) {
         return Err(Refusal::Tables);
     }
-    look_up(tables, party)
+    look_up(ring, records, rows, party)
 }

@@ -7,10 +7,12 @@ ghost use Rattle.agreement.specs.Calls.{named as is_named, own_of};
 ghost use Rattle.setup.specs.Order.{refusal_in, by_order};
 
 use crate::plan::{owns_in_order, places_enough};
+use rows::record::Record;
+use rows::row::Row;
 use tables::liars::{count_named, none_above};
 use tables::refusal::Refusal;
 use tables::ring::Ring;
-use tables::tables::{Tables, rows_of_all};
+use tables::tables::rows_of_all;
 use values::value::Value;
 use wires::wire::Wire;
 
@@ -62,12 +64,13 @@ impl Inspection {
 pub fn inspect<V: Value, W: Wire<V>>(
     planned: &Ring,
     own: &[V],
-    tables: &Tables<V>,
+    records: &[Record<V>],
+    rows: &[Row<V>],
     wire: &W,
 ) -> Inspection
     ensures named { result.named ≡ nat_lt planned.now.faulty (2 ^ planned.now.n) }
     ensures few { result.few ≡ nat_le (count (is_named planned.now.faulty) planned.now.n) planned.now.f }
-    ensures places { result.places ≡ (nat_le planned.now.n (length own.now) && (nat_le planned.now.n (length tables.now.records.now) && nat_le (planned.now.n * planned.now.n) (length tables.now.rows.now))) }
+    ensures places { result.places ≡ (nat_le planned.now.n (length own.now) && (nat_le planned.now.n (length records.now) && nat_le (planned.now.n * planned.now.n) (length rows.now))) }
     ensures owns { planned.now.n ≤ length own.now → result.owns ≡ every (λ i. is_named planned.now.faulty i || V.allows (own_of (map V.bytes own.now) i)) planned.now.n }
     ensures vacant { result.vacant ≡ (length (W.waiting wire.now) == 0) }
     ensures roomy { result.roomy ≡ nat_le (planned.now.n * planned.now.n) (room_left (W.capacity wire.now) (W.waiting wire.now)) }
@@ -75,7 +78,7 @@ pub fn inspect<V: Value, W: Wire<V>>(
     Inspection {
         named: none_above(planned.faulty, planned.n),
         few: count_named(planned.faulty, planned.n) <= planned.f,
-        places: places_enough(planned, own, tables),
+        places: places_enough(planned, own, records, rows),
         owns: owns_in_order(planned, own),
         vacant: wire.count() == 0,
         roomy: rows_of_all(planned.n) <= wire.room(),

@@ -3,9 +3,11 @@ ghost use Rattle.std.specs.Prelude.{◌≡◌, ◌*◌, ◌≤◌, ◌&&◌, ◌
 ghost use Rattle.rules.specs.Bounds.{every};
 ghost use Rattle.agreement.specs.Calls.{named, own_of};
 
+use rows::record::Record;
+use rows::row::Row;
 use tables::liars::is_named;
 use tables::ring::Ring;
-use tables::tables::{Tables, rows_of_all};
+use tables::tables::rows_of_all;
 use values::value::Value;
 
 #[derive(Clone, Copy)]
@@ -44,9 +46,20 @@ pub fn owns_in_order<V: Value>(ring: &Ring, own: &[V]) -> bool
 }
 
 // Whether there are own values, records and rows enough.
-pub fn places_enough<V: Value>(ring: &Ring, own: &[V], tables: &Tables<V>) -> bool
-    ensures { result ≡ (nat_le ring.now.n (length own.now) && (nat_le ring.now.n (length tables.now.records.now) && nat_le (ring.now.n * ring.now.n) (length tables.now.rows.now))) }
+pub fn places_enough<V: Value>(
+    ring: &Ring,
+    own: &[V],
+    records: &[Record<V>],
+    rows: &[Row<V>],
+) -> bool
+    ensures { result ≡ (nat_le ring.now.n (length own.now) && (nat_le ring.now.n (length records.now) && nat_le (ring.now.n * ring.now.n) (length rows.now))) }
 {
     let n = ring.n as usize;
-    own.len() >= n && tables.records.len() >= n && tables.rows.len() >= rows_of_all(ring.n)
+    if own.len() < n {
+        return false;
+    }
+    if records.len() < n {
+        return false;
+    }
+    rows.len() >= rows_of_all(ring.n)
 }

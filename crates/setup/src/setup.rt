@@ -33,7 +33,8 @@ pub fn set_up<V: Value, W: Wire<V>>(
         f: plan.f as u8,
         faulty: plan.faulty,
     };
-    inspect(&planned, plan.own, tables, wire).verdict()?;
+    let seen = tables.shared();
+    inspect(&planned, plan.own, seen.records, seen.rows, wire).verdict()?;
     tables.ring = planned;
     enter_all(plan.own, tables, wire);
     Ok(0)

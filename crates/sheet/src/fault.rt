@@ -3,7 +3,7 @@ ghost use Rattle.std.specs.Prelude.{◌≡◌};
 ghost use Rattle.sheet.specs.declared.fault.NoCalls.TheVariants as none;
 
 use sheet_lines::fault::SheetFault;
-use std::alloc::AllocFailed;
+use std::alloc::{AllocError, AllocFailed};
 use std::{error, fmt};
 use thiserror::Error;
 
@@ -38,6 +38,14 @@ impl From<SheetFault> for NoCalls<SheetFault> {
 
     fn from(f: SheetFault) -> NoCalls<SheetFault> {
         NoCalls::Unreadable(f)
+    }
+}
+
+impl<F> From<AllocError> for NoCalls<F> {
+    ghost from_gives = { λ _ r. r ≡ none.Memory };
+
+    fn from(_e: AllocError) -> NoCalls<F> {
+        NoCalls::Memory
     }
 }
 

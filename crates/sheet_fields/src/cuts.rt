@@ -14,7 +14,11 @@ pub struct Halves<'a> {
 pub fn cut<'a>(s: &'a [u8], stop: u8) -> Option<Halves<'a>>
     ensures { MatchOption result (has stop s.now ≡ false) (λ c. (has stop s.now ≡ true) × ((c.front.now ≡ before stop s.now) × (c.rest.now ≡ after stop s.now))) }
 {
-    let end = s.iter().position(|b| *b == stop)?;
+    // not by ?: so the test that there is one is a place of its own, where an edit can turn it
+    let end = s.iter().position(|b| *b == stop).unwrap_or(s.len());
+    if end >= s.len() {
+        return None;
+    }
     Some(Halves {
         front: &s[..end],
         rest: &s[end + 1..],

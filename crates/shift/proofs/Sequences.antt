@@ -8,17 +8,23 @@ use Rattle.tables.specs.declared.refusal.Refusal.{Refusal}
 use Rattle.tables.specs.Meaning.{answer_of}
 use Rattle.shift.specs.Meaning.{briefly, is_refused, refusals, end_of}
 
--- ## One call over tables that fit
+-- ## One call
 brief_same : (r : Result ℕ Refusal) → briefly (answer_of r) ≡ answer_of r
 brief_same (Ok x) = refl
 brief_same (Err x) = refl
 
-module _ (k : Kind) (s s' : Ring) (c d : Call) (e : c ≡ d) (fit : true ≡ tables_fit s) where
+module _ (k : Kind) (s s' : Ring) (c d : Call) (e : c ≡ d) where
   -- what a call comes to, whatever it tells
+  pub called : (a : Answer) → Gives (call k s d) a s' → (briefly a ≡ briefly (call k s c).answer) × (s' ≡ (call k s c).after)
+  called a g = (ap briefly (g.answer ∙ ap (λ c. (call k s c).answer) (sym e)), g.after ∙ ap (λ c. (call k s c).after) (sym e))
+
+  pub call_answers : (r : Result ℕ Refusal) → Gives (call k s d) (answer_of r) s' → (answer_of r ≡ briefly (call k s c).answer) × (s' ≡ (call k s c).after)
+  call_answers r g = let o = called (answer_of r) g in (sym (brief_same r) ∙ o.0, o.1)
+
+-- the same over tables that fit
+module _ (k : Kind) (s s' : Ring) (c d : Call) (e : c ≡ d) (fit : true ≡ tables_fit s) where
   pub comes_to : (a : Answer) → Gives (obey k s d) a s' → (briefly a ≡ briefly (call k s c).answer) × (s' ≡ (call k s c).after)
-  comes_to a g =
-      let o = obeyed k s d a s' fit g in
-      (ap briefly (o.answer ∙ ap (λ c. (call k s c).answer) (sym e)), o.after ∙ ap (λ c. (call k s c).after) (sym e))
+  comes_to a g = called k s s' c d e a (obeyed k s d a s' fit g)
 
   pub answers : (r : Result ℕ Refusal) → Gives (obey k s d) (answer_of r) s' → (answer_of r ≡ briefly (call k s c).answer) × (s' ≡ (call k s c).after)
   answers r g = let o = comes_to (answer_of r) g in (sym (brief_same r) ∙ o.0, o.1)

@@ -8,7 +8,11 @@ ghost use Rattle.shift.specs.Meaning.{call_of, briefly, refusals, end_of};
 
 use crate::call::Call;
 use handover::delivery::bring;
-use ring::lookup::look_up;
+use ring::delivery::{hand, repeat};
+use ring::lookup::{look_up, show};
+use ring::losing::lose;
+use ring::sending::send;
+use ring::timing::timer;
 use tables::refusal::Refusal;
 use tables::tables::{Tables, tables_in_order};
 use timeouts::timeouts::run_out;
@@ -16,6 +20,9 @@ use values::value::Value;
 use wire_calls::losing::discard;
 use wire_calls::sending::speak;
 use wires::wire::Wire;
+
+// What a call that posts nothing answers.
+const NO_POSTS: usize = 0;
 
 // Makes one call over tables that fit. What show tells is let go: it answers 0.
 fn obey_fitting<V: Value, W: Wire<V>>(
@@ -36,8 +43,9 @@ fn obey_fitting<V: Value, W: Wire<V>>(
         Call::Send(m) => speak(&tables.ring, wire, m),
         Call::Timer(party) => run_out(tables, wire, *party),
         Call::Show(party) => {
-            look_up(tables, *party)?;
-            Ok(0)
+            let seen = tables.shared();
+            look_up(&seen.ring, seen.records, seen.rows, *party)?;
+            Ok(NO_POSTS)
         }
     }
 }
@@ -52,10 +60,24 @@ pub fn obey<V: Value, W: Wire<V>>(
     ensures answer { answer_of result ≡ briefly (obeyed (kind_of V.width V.valid V.allows) (ring_in V.bytes tables.old (W.waiting wire.old) (W.capacity wire.old)) (call_of V.bytes call.now)).answer }
     ensures after { ring_in V.bytes tables.new (W.waiting wire.new) (W.capacity wire.new) ≡ (obeyed (kind_of V.width V.valid V.allows) (ring_in V.bytes tables.old (W.waiting wire.old) (W.capacity wire.old)) (call_of V.bytes call.now)).after }
 {
-    if !tables_in_order(tables) {
-        return Err(Refusal::Tables);
+    match call {
+        Call::Hand(place) => hand(tables, wire, *place),
+        Call::Repeat(place) => repeat(tables, wire, *place),
+        Call::Lose(place) => {
+            let seen = tables.shared();
+            lose(&seen.ring, seen.records, seen.rows, wire, *place)
+        }
+        Call::Send(m) => {
+            let seen = tables.shared();
+            send(&seen.ring, seen.records, seen.rows, wire, m)
+        }
+        Call::Timer(party) => timer(tables, wire, *party),
+        Call::Show(party) => {
+            let seen = tables.shared();
+            show(&seen.ring, seen.records, seen.rows, *party)?;
+            Ok(NO_POSTS)
+        }
     }
-    obey_fitting(tables, wire, call)
 }
 
 // Makes all calls in order, and answers how many were refused. The tables are tested once:
@@ -69,7 +91,8 @@ pub fn obey_all<V: Value, W: Wire<V>>(
     ensures answer { result ≡ refusals (kind_of V.width V.valid V.allows) (ring_in V.bytes tables.old (W.waiting wire.old) (W.capacity wire.old)) (map (call_of V.bytes) calls.now) }
     ensures after { ring_in V.bytes tables.new (W.waiting wire.new) (W.capacity wire.new) ≡ end_of (kind_of V.width V.valid V.allows) (ring_in V.bytes tables.old (W.waiting wire.old) (W.capacity wire.old)) (map (call_of V.bytes) calls.now) }
 {
-    if !tables_in_order(tables) {
+    let seen = tables.shared();
+    if !tables_in_order(&seen.ring, seen.records, seen.rows) {
         return calls.len();
     }
     // a loop, since each call changes the tables that the next one meets

@@ -31,6 +31,9 @@ pub fn run_shift<V: Value, W: Wire<V>>(
         (λ number. Ran (kind_of V.width V.valid V.allows) (plan_in V.bytes plan.now) (ring_cut V.bytes plan.now.n tables.old (W.waiting wire.old) (W.capacity wire.old)) (map (call_of V.bytes) calls.now) number (ring_in V.bytes tables.new (W.waiting wire.new) (W.capacity wire.new)))
         (λ e. ((set_up (kind_of V.width V.valid V.allows) (plan_in V.bytes plan.now) (ring_cut V.bytes plan.now.n tables.old (W.waiting wire.old) (W.capacity wire.old))).answer ≡ refused (refusal_number e)) × (tables.new.ring ≡ tables.old.ring) × (tables.new.records.now ≡ tables.old.records.now) × (tables.new.rows.now ≡ tables.old.rows.now) × (W.waiting wire.new ≡ W.waiting wire.old) × (W.capacity wire.new ≡ W.capacity wire.old)) }
 {
-    set_up(plan, tables, wire)?;
-    Ok(obey_all(tables, wire, calls))
+    // not by ?: so the arm of a refusal is a place of its own, where an edit can turn it
+    match set_up(plan, tables, wire) {
+        Ok(_) => Ok(obey_all(tables, wire, calls)),
+        Err(refusal) => Err(refusal),
+    }
 }

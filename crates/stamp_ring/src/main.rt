@@ -89,7 +89,9 @@ fn run_sheet(rt: &HostRuntime, bytes: &[u8], steps: bool) -> anyhow::Result<()> 
         Ok(plan) => plan,
         Err(fault) => return print_stop(rt, UNREADABLE, Some(fault.line)),
     };
-    let lines = calls(rt.alloc(), bytes).context("no memory for the calls of the sheet")?;
+    let lines = calls(rt.alloc(), bytes)
+        .ok()
+        .context("no memory for the calls of the sheet")?;
     // an arm for each kind of value, since each is another type
     match plan {
         Plan::Blocks(setup) => run_setup(rt, &setup, lines.as_slice(), steps),

@@ -52,6 +52,18 @@ fn put_entry<V: Value>(table: &mut [Message<V>], i: usize, m: &Message<V>)
     table[i] = *m;
 }
 
+// Answers one of the first `count` entries, and moves the later ones of these up over it. Not by look, which would hand
+// the message on through a Result.
+fn take_entry<V: Value>(table: &mut [Message<V>], i: usize, count: usize) -> Message<V>
+    requires { (i < count) × (count ≤ length table.old) }
+    ensures value { message V.bytes result ≡ slice_index_or (map (entry V.valid V.width V.bytes) table.old) i (fixed_request V.width) }
+    ensures after { table.new ≡ paste table.old i (drop (i + 1) table.old) (count - (i + 1)) }
+{
+    let m = entry_at(table, i);
+    close_gap(table, i, 1, count);
+    m
+}
+
 impl<'a, V: Value> Wire<V> for TableWire<'a, V> {
     ghost waiting = { λ t. entries V.Value.valid V.Value.width V.Value.bytes t.count t.table.now };
 
@@ -90,9 +102,11 @@ impl<'a, V: Value> Wire<V> for TableWire<'a, V> {
     }
 
     fn take_out(&mut self, i: usize) -> Result<Message<V>, WireFault> {
-        let m = self.look(i)?;
         let count = self.count();
-        close_gap(self.table, i, 1, count);
+        if i >= count {
+            return Err(WireFault::NoMessage);
+        }
+        let m = take_entry(self.table, i, count);
         self.count = count - 1;
         Ok(m)
     }

@@ -1,6 +1,6 @@
 -- Tables that fit a ring.
-use Rattle.std.proofs.Common.{◌≡◌, ℕ, ◌*◌, ◌≤◌, Bool, true, false, ◌&&◌, ◌||◌, leb, sym, refl, ap, ◌∙◌}
-use Rattle.std.proofs.lemmas.Bool.{and_parts, le-leb, leb-true}
+use Rattle.std.proofs.Common.{◌≡◌, ℕ, ◌*◌, ◌<◌, ◌≤◌, Bool, true, false, ◌&&◌, ◌||◌, leb, sym, refl, ap, ◌∙◌}
+use Rattle.std.proofs.lemmas.Bool.{and_left, and_right, and_parts, le-leb, lt-leb, leb-true}
 use Rattle.rules.specs.Bounds.{every, party_fits}
 use Rattle.rules.specs.Counting.{upd}
 use Rattle.rules.specs.Party.{Party}
@@ -18,6 +18,16 @@ fitted s t h l e =
 module _ (s : Ring) where
   abbrev in_bounds : Bool
   in_bounds = within_bounds s
+
+  pub few-records : s.records < s.n → false ≡ tables_fit s
+  few-records h = sym (and_left (leb s.n s.records) (leb (s.n * s.n) s.rows && in_bounds) (lt-leb s.n s.records h))
+
+  pub few-rows : s.rows < s.n * s.n → false ≡ tables_fit s
+  few-rows h =
+      sym (and_right (leb s.n s.records) (leb (s.n * s.n) s.rows && in_bounds) (and_left (leb (s.n * s.n) s.rows) in_bounds (lt-leb (s.n * s.n) s.rows h)))
+
+  pub all_fit : (t : Bool) → s.n ≤ s.records → s.n * s.n ≤ s.rows → t ≡ in_bounds → t ≡ tables_fit s
+  all_fit = fitted s
 
   -- what tables that fit give
   pub records_enough : true ≡ tables_fit s → s.n ≤ s.records

@@ -2,3 +2,4 @@ pub mod Words
 pub mod Every
 pub mod Parts
 pub mod Fitting
+pub mod Shared

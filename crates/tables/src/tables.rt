@@ -4,7 +4,7 @@ ghost use Rattle.rules.specs.Bounds.{party_fits, every, row_fits};
 ghost use Rattle.rows.specs.Meaning.{record_of, rows_of, party_of};
 ghost use Rattle.agreement.specs.Ring.{tables_fit};
 ghost use Rattle.agreement.specs.Calls.{named};
-ghost use Rattle.tables.specs.Meaning.{parties_of, ring_in};
+ghost use Rattle.tables.specs.Meaning.{parties_of, ring_of};
 
 use crate::bounds::{record_in_bounds, row_in_bounds};
 use crate::liars::is_named;
@@ -34,6 +34,26 @@ impl<'a, 'b, V> Tables<'a, 'b, V> {
             rows,
         }
     }
+
+    // The parts, to be read.
+    pub fn shared(&self) -> SharedTables<V>
+        ensures ring { result.ring ≡ self.now.ring }
+        ensures same { (result.records.now ≡ self.now.records.now) × (result.rows.now ≡ self.now.rows.now) }
+    {
+        SharedTables {
+            ring: self.ring,
+            records: self.records,
+            rows: self.rows,
+        }
+    }
+}
+
+// The parts of a ring over its tables, to be read by as many as share them.
+#[derive(Clone, Copy)]
+pub struct SharedTables<'a, 'b, V> {
+    pub ring: Ring,
+    pub records: &'a [Record<V>],
+    pub rows: &'b [Row<V>],
 }
 
 // Where the rows of the party at this index begin: cut by hand, since a part is lent by its bounds.
@@ -60,17 +80,14 @@ pub fn party_in_bounds<V: Value>(mine: &Record<V>, rows: &[Row<V>]) -> bool
 }
 
 // Whether the party lies within its bounds; nothing is asked of a faulty one.
-fn party_in_order<V: Value>(tables: &Tables<V>, party: u8) -> bool
-    requires places { (tables.now.ring.n ≤ length tables.now.records.now) × (tables.now.ring.n * tables.now.ring.n ≤ length tables.now.rows.now) }
-    requires seated { (1 ≤ party) × (party ≤ tables.now.ring.n) }
-    ensures { result ≡ (named tables.now.ring.faulty party || party_fits tables.now.ring.n (parties_of V.bytes tables.now.ring.n tables.now.records.now tables.now.rows.now party)) }
+fn party_in_order<V: Value>(ring: &Ring, records: &[Record<V>], rows: &[Row<V>], party: u8) -> bool
+    requires places { (ring.now.n ≤ length records.now) × (ring.now.n * ring.now.n ≤ length rows.now) }
+    requires seated { (1 ≤ party) × (party ≤ ring.now.n) }
+    ensures { result ≡ (named ring.now.faulty party || party_fits ring.now.n (parties_of V.bytes ring.now.n records.now rows.now party)) }
 {
-    let ring = tables.ring;
     if is_named(ring.faulty, party) {
         return true;
     }
-    let records = &*tables.records;
-    let rows = &*tables.rows;
     let base = base_of(ring.n, party - 1);
     party_in_bounds(
         &records[party as usize - 1],
@@ -80,12 +97,12 @@ fn party_in_order<V: Value>(tables: &Tables<V>, party: u8) -> bool
 
 // A loop and not `all`, whose proof over a range of numbers did not close.
 // Whether every honest party lies within its bounds.
-fn parties_in_order<V: Value>(tables: &Tables<V>) -> bool
-    requires { (tables.now.ring.n ≤ length tables.now.records.now) × (tables.now.ring.n * tables.now.ring.n ≤ length tables.now.rows.now) }
-    ensures { result ≡ every (λ i. named tables.now.ring.faulty i || party_fits tables.now.ring.n (parties_of V.bytes tables.now.ring.n tables.now.records.now tables.now.rows.now i)) tables.now.ring.n }
+fn parties_in_order<V: Value>(ring: &Ring, records: &[Record<V>], rows: &[Row<V>]) -> bool
+    requires { (ring.now.n ≤ length records.now) × (ring.now.n * ring.now.n ≤ length rows.now) }
+    ensures { result ≡ every (λ i. named ring.now.faulty i || party_fits ring.now.n (parties_of V.bytes ring.now.n records.now rows.now i)) ring.now.n }
 {
-    for party in 1..=tables.ring.n {
-        if !party_in_order(tables, party) {
+    for party in 1..=ring.n {
+        if !party_in_order(ring, records, rows, party) {
             return false;
         }
     }
@@ -100,12 +117,17 @@ pub fn rows_of_all(n: u8) -> usize
 }
 
 // A Boolean, since a whole shift answers a number where it does not hold, and the calls a refusal.
-// Whether the tables have places for all parties, and every honest party lies within its bounds.
+// Whether the tables have places for all parties, and every honest party lies within its bounds. The parts one by one,
+// here and in what only reads the tables: a `Tables` asks for them to be lent alone, and others may read them too.
 // What it tells stays a clause: in a struct that keeps it, the second of two parts lent at once was not proved to lie in memory.
-pub fn tables_in_order<V: Value>(tables: &Tables<V>) -> bool
-    ensures { result ≡ tables_fit (ring_in V.bytes tables.now [] 0) }
+pub fn tables_in_order<V: Value>(ring: &Ring, records: &[Record<V>], rows: &[Row<V>]) -> bool
+    ensures { result ≡ tables_fit (ring_of V.bytes ring.now records.now rows.now [] 0) }
 {
-    tables.records.len() >= tables.ring.n as usize
-        && tables.rows.len() >= rows_of_all(tables.ring.n)
-        && parties_in_order(tables)
+    if records.len() < ring.n as usize {
+        return false;
+    }
+    if rows.len() < rows_of_all(ring.n) {
+        return false;
+    }
+    parties_in_order(ring, records, rows)
 }

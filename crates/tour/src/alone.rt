@@ -26,7 +26,9 @@ pub(crate) fn walk_alone(
         }],
     };
     let mut wire = TableWire::new(table);
-    let _answer = set_up(&plan, tables, &mut wire).context("a ring of one was refused")?;
+    let _answer = set_up(&plan, tables, &mut wire)
+        .ok()
+        .context("a ring of one was refused")?;
     println!(rt; "set-up: the party enters view 1")?;
     print_posts(rt, &wire, 1)?;
     for _ in 0..11 {

@@ -14,7 +14,9 @@ fn add_post<V: Value>(
     frame: &mut [u8],
     m: &Message<V>,
 ) -> anyhow::Result<()> {
-    let _length = write_frame(m, frame).context("a message that waits has no frame")?;
+    let _length = write_frame(m, frame)
+        .ok()
+        .context("a message that waits has no frame")?;
     let digits = hex::encode(heap, &*frame)?;
     writeln!(out, "post={digits}")?;
     Ok(())
@@ -32,6 +34,7 @@ pub(crate) fn add_posts<V: Value, W: Wire<V>>(
     for place in count.saturating_sub(posts)..count {
         let m = wire
             .look(place)
+            .ok()
             .context("a message that was posted does not wait")?;
         add_post(heap, out, frame.as_mut_slice(), &m)?;
     }

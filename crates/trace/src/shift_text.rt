@@ -1,10 +1,8 @@
 // A shift as its text gives it: the set-up of a run sheet, and then calls of any length.
 use crate::call::{is_call, read_call};
 use anyhow::Context;
-use frames::fault::FrameFault;
 use sheet::reader::read;
 use sheet::setup::Plan;
-use shift::call::Call;
 use std::alloc::Global;
 use values::value::Value;
 
@@ -26,18 +24,18 @@ pub(crate) fn read_opening(text: &str) -> anyhow::Result<(Plan, &str)> {
     let (opening, rest) = text
         .split_at_checked(opening_length(text))
         .context("the shift does not part at a line")?;
-    let plan = read(opening.as_bytes()).context("the set-up of the shift cannot be read")?;
+    let plan = read(opening.as_bytes())
+        .ok()
+        .context("the set-up of the shift cannot be read")?;
     Ok((plan, rest))
 }
 
-// The calls that the lines name. A loop: a map by a function whose result names the kind of value has no proof yet.
-pub(crate) fn read_calls<V: Value>(
-    heap: Global,
-    lines: &str,
-) -> anyhow::Result<Vec<Result<Call<V>, FrameFault>>> {
-    let mut calls = Vec::new(heap);
+// Whether every line names a call: a shift whose set-up is refused has to be readable too. Otherwise each line is read
+// as its call is made, and nothing is printed before the last one: a list of calls would take ten times the room of the
+// lines, and a shift has no limit of length.
+pub(crate) fn check_calls<V: Value>(heap: Global, lines: &str) -> anyhow::Result<()> {
     for line in lines.lines() {
-        calls.push(read_call(heap, line)?)?;
+        let _call = read_call::<V>(heap, line)?;
     }
-    Ok(calls)
+    Ok(())
 }

@@ -1,7 +1,8 @@
 // The trace of a shift: the posts of its set-up, the answer and the posts of each call, and the end.
+use crate::call::read_call;
 use crate::fault::CallFault;
 use crate::posts::add_posts;
-use crate::shift_text::{read_calls, read_opening};
+use crate::shift_text::{check_calls, read_opening};
 use describe::blank::Places;
 use describe::end::add_end;
 use describe::plan::{CAPACITY, MOST_PARTIES, plan_of};
@@ -25,8 +26,11 @@ fn perform<V: Value, W: Wire<V>>(
     wire: &mut W,
     call: &Result<Call<V>, FrameFault>,
 ) -> Result<usize, CallFault> {
-    let call = (*call)?;
-    Ok(obey(tables, wire, &call)?)
+    // not (*call)?, which would copy the message
+    match call {
+        Ok(call) => Ok(obey(tables, wire, call)?),
+        Err(fault) => Err(CallFault::Frame(*fault)),
+    }
 }
 
 fn add_call<V: Value, W: Wire<V>>(
@@ -52,18 +56,20 @@ fn add_call<V: Value, W: Wire<V>>(
 fn trace_over<V: ValueText, W: Wire<V>>(
     heap: Global,
     setup: &Setup<V>,
-    calls: &[Result<Call<V>, FrameFault>],
+    lines: &str,
     tables: &mut Tables<V>,
     wire: &mut W,
 ) -> anyhow::Result<String> {
     let mut out = String::new(heap);
     if let Err(refusal) = set_up(&plan_of(setup), tables, wire) {
+        check_calls::<V>(heap, lines)?;
         writeln!(out, "refused={}", refusal.number())?;
         return Ok(out);
     }
     add_posts(heap, &mut out, wire, wire.count())?;
-    for call in calls {
-        add_call(heap, &mut out, tables, wire, call)?;
+    for line in lines.lines() {
+        let call = read_call(heap, line)?;
+        add_call(heap, &mut out, tables, wire, &call)?;
     }
     add_end(heap, &mut out, tables, wire.count())?;
     Ok(out)
@@ -74,12 +80,11 @@ fn trace_setup<V: ValueText>(
     setup: &Setup<V>,
     lines: &str,
 ) -> anyhow::Result<String> {
-    let calls = read_calls(heap, lines)?;
     let mut places = Places::new(heap, MOST_PARTIES)?;
     let mut buffer = vec![in heap; 0u8; CAPACITY * frame_length::<V>()]?;
     let mut tables = places.tables();
     let mut wire = FrameWire::new(buffer.as_mut_slice());
-    trace_over(heap, setup, calls.as_slice(), &mut tables, &mut wire)
+    trace_over(heap, setup, lines, &mut tables, &mut wire)
 }
 
 // An arm for each kind of value, since each is another type.

@@ -10,4 +10,4 @@ invariant-loop-i g l =
     let b = g.V.Value.bytes in
     let w = g.W.Wire in
     (l.posts ≤ l.i) × Posted (w.waiting l.initial.w) (w.waiting l.w) (w.capacity l.initial.w) (w.capacity l.w) l.posts
-    (to_each (λ j. goes l.whom (rows_of b l.party.rows.now j)) (addressed (message b l.m)) l.i)
+    (to_each (λ j. goes l.whom (rows_of b l.rows j)) (addressed (message b l.m)) l.i)

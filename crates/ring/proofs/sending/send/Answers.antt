@@ -2,7 +2,7 @@ use Rattle.std.proofs.Common.{refl}
 use Rattle.messages.specs.Meaning.{message}
 use Rattle.agreement.specs.Runs.{send}
 use Rattle.agreement.proofs.Obeyed.{unfit, obeyed}
-use Rattle.tables.specs.Meaning.{ring_in, answer_of}
+use Rattle.tables.specs.Meaning.{ring_of, answer_of}
 use Rattle.turns.specs.Meaning.{kind_of}
 use Rattle.ring.proofs.sending.send.Goals as goal
 
@@ -10,12 +10,12 @@ pub returns-then-not-tables_in_order : goal.returns-then-not-tables_in_order
 returns-then-not-tables_in_order g c =
     let v = g.V.Value in
     let k = kind_of v.width v.valid v.allows in
-    let s = ring_in v.bytes c.args.tables.now (g.W.Wire.waiting c.args.wire.now) (g.W.Wire.capacity c.args.wire.now) in
+    let s = ring_of v.bytes c.args.ring.now c.args.records.now c.args.rows.now (g.W.Wire.waiting c.args.wire.now) (g.W.Wire.capacity c.args.wire.now) in
     unfit k s (send (message g.V.Value.bytes c.args.m.now)) s c.if-not-tables_in_order.ensures refl
 
 pub returns : goal.returns
 returns g c =
     let v = g.V.Value in
     let k = kind_of v.width v.valid v.allows in
-    let s = ring_in v.bytes c.args.tables.now (g.W.Wire.waiting c.args.wire.now) (g.W.Wire.capacity c.args.wire.now) in
+    let s = ring_of v.bytes c.args.ring.now c.args.records.now c.args.rows.now (g.W.Wire.waiting c.args.wire.now) (g.W.Wire.capacity c.args.wire.now) in
     obeyed k s (send (message v.bytes c.args.m.now)) (answer_of c.speak.result) _ c.if-not-tables_in_order.ensures (c.speak.ensures s.parties s.records s.rows)

@@ -2,6 +2,7 @@ use Rattle.std.proofs.Common.{◌≡◌, map, take, sym, refl, ap, ◌∙◌, ar
 use Rattle.std.proofs.lemmas.List.{length-map, take_all}
 use Rattle.agreement.specs.Runs.{call}
 use Rattle.tables.specs.Meaning.{ring_in, SameTables}
+use Rattle.tables.proofs.Shared.{shared_fit}
 use Rattle.turns.specs.Meaning.{kind_of}
 use Rattle.shift.specs.Meaning.{call_of, refusals, end_of}
 use Rattle.shift.proofs.Sequences.{refused_so, end_next, count_next, count_kept, all_refused, none_changed}
@@ -14,8 +15,11 @@ returns-then-not-tables_in_order g c =
     let k = kind_of v.width v.valid v.allows in
     let s = ring_in v.bytes c.args.tables.now (g.W.Wire.waiting c.args.wire.now) (g.W.Wire.capacity c.args.wire.now) in
     let cs = map (call_of v.bytes) c.args.calls.now in
-    let h = c.if-not-tables_in_order.ensures in
+    let h = c.if-not-tables_in_order.ensures ∙ shared_fit v.bytes c.args.tables.now c.shared-seen.result.ring c.shared-seen.result.records.now c.shared-seen.result.rows.now c.shared-seen.ensures.ring c.shared-seen.ensures.same in
     record { lent = (refl, (refl, refl)); answer = sym (all_refused k s h cs ∙ length-map c.args.calls.now (call_of v.bytes)); after = sym (none_changed k s h cs) }
+
+pub loop-call-init : goal.loop-call-init
+loop-call-init g c = record { lent = (refl, (refl, refl)); few = omega arith; count = refl; after = refl; fit = c.if-not-tables_in_order.ensures ∙ shared_fit g.V.Value.bytes c.args.tables.now c.shared-seen.result.ring c.shared-seen.result.records.now c.shared-seen.result.rows.now c.shared-seen.ensures.ring c.shared-seen.ensures.same }
 
 pub obey_fitting-requires : goal.obey_fitting-requires
 obey_fitting-requires g c = c.loop-call.invariant.fit

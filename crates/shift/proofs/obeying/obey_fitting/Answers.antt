@@ -1,8 +1,9 @@
-use Rattle.std.proofs.Common.{refl, ap}
+use Rattle.std.proofs.Common.{sym, refl, ap, ◌∙◌}
 use Rattle.std.proofs.lemmas.Result.{err_from_is_err_and}
 use Rattle.messages.specs.Meaning.{message}
-use Rattle.agreement.specs.Runs.{hand, repeat, lose, send, timer, show}
+use Rattle.agreement.specs.Runs.{obey, hand, repeat, lose, send, timer, show}
 use Rattle.tables.specs.Meaning.{ring_in}
+use Rattle.tables.proofs.Shared.{shared_fit, shared_gives}
 use Rattle.turns.specs.Meaning.{kind_of}
 use Rattle.shift.specs.Meaning.{call_of}
 use Rattle.shift.proofs.Sequences.{comes_to, answers}
@@ -64,7 +65,7 @@ returns-in_ok-look_up-in-Show g c =
     let w = g.W.Wire in
     let k = kind_of v.width v.valid v.allows in
     let s = ring_in v.bytes c.args.tables.now (w.waiting c.args.wire.now) (w.capacity c.args.wire.now) in
-    let o = comes_to k s s _ (show c.in-Show.party) (ap (call_of v.bytes) c.in-Show.is) c.requires _ (c.in_ok-look_up-in-Show.ensures s.wire s.capacity) in
+    let o = comes_to k s s _ (show c.in-Show.party) (ap (call_of v.bytes) c.in-Show.is) c.requires _ (shared_gives v.bytes c.args.tables.now c.shared-seen.result.ring c.shared-seen.result.records.now c.shared-seen.result.rows.now c.shared-seen.ensures.ring c.shared-seen.ensures.same (λ s. obey k s (show c.in-Show.party)) _ s.wire s.wire s.capacity s.capacity (c.in_ok-look_up-in-Show.ensures s.wire s.capacity)) in
     record { lent = (refl, (refl, refl)); answer = o.0; after = o.1; fit = c.requires }
 
 pub returns-in_err-look_up-in-Show : goal.returns-in_err-look_up-in-Show
@@ -73,6 +74,9 @@ returns-in_err-look_up-in-Show g c =
     let w = g.W.Wire in
     let k = kind_of v.width v.valid v.allows in
     let s = ring_in v.bytes c.args.tables.now (w.waiting c.args.wire.now) (w.capacity c.args.wire.now) in
-    let o = comes_to k s s _ (show c.in-Show.party) (ap (call_of v.bytes) c.in-Show.is) c.requires _ (c.in_err-look_up-in-Show.ensures s.wire s.capacity) in
+    let o = comes_to k s s _ (show c.in-Show.party) (ap (call_of v.bytes) c.in-Show.is) c.requires _ (shared_gives v.bytes c.args.tables.now c.shared-seen.result.ring c.shared-seen.result.records.now c.shared-seen.result.rows.now c.shared-seen.ensures.ring c.shared-seen.ensures.same (λ s. obey k s (show c.in-Show.party)) _ s.wire s.wire s.capacity s.capacity (c.in_err-look_up-in-Show.ensures s.wire s.capacity)) in
     let f = err_from_is_err_and c.from_residual.result c.from_residual.ensures.1 in
     record { lent = (refl, (refl, refl)); answer = rw (f.1, f.2) o.0; after = o.1; fit = c.requires }
+
+pub look_up-requires : goal.look_up-requires
+look_up-requires g c = c.requires ∙ sym (shared_fit g.V.Value.bytes c.args.tables.now c.shared-seen.result.ring c.shared-seen.result.records.now c.shared-seen.result.rows.now c.shared-seen.ensures.ring c.shared-seen.ensures.same)

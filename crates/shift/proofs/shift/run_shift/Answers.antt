@@ -1,5 +1,4 @@
 use Rattle.std.proofs.Common.{◌≡◌, map, sym, ap, ◌∙◌}
-use Rattle.std.proofs.lemmas.Result.{err_from_is_err_and}
 use Rattle.agreement.specs.Calls.{said, set_up}
 use Rattle.agreement.proofs.Counted.{counts_hold}
 use Rattle.tables.specs.Meaning.{ring_in}
@@ -9,15 +8,15 @@ use Rattle.shift.specs.Meaning.{call_of, refusals}
 use Rattle.shift.proofs.Sequences.{shift-ring}
 use Rattle.shift.proofs.shift.run_shift.Goals as goal
 
-pub returns : goal.returns
-returns g c =
+pub returns-in-Ok : goal.returns-in-Ok
+returns-in-Ok g c =
     let v = g.V.Value in
     let w = g.W.Wire in
     let k = kind_of v.width v.valid v.allows in
     let p = plan_in v.bytes c.args.plan.now in
     let s = ring_cut v.bytes p.n c.args.tables.now (w.waiting c.args.wire.now) (w.capacity c.args.wire.now) in
     let cs = map (call_of v.bytes) c.args.calls.now in
-    let e = c.in_ok-set_up.ensures in
+    let e = c.in-Ok.ensures in
     let m = c.set_up.new in
     let o = c.obey_all.new in
     let u = c.obey_all.ensures in
@@ -35,8 +34,7 @@ returns g c =
       };
     }
 
-pub returns-in_err-set_up : goal.returns-in_err-set_up
-returns-in_err-set_up g c =
-    let e = c.in_err-set_up.ensures in
-    let f = err_from_is_err_and c.from_residual.result c.from_residual.ensures.1 in
-    record { lent = e.lent; run = rw (f.1, f.2) (sym e.gives.answer, e.leaves.0, e.leaves.1, e.leaves.2, e.leaves.3, e.leaves.4) }
+pub returns-in-Err : goal.returns-in-Err
+returns-in-Err g c =
+    let e = c.in-Err.ensures in
+    record { lent = e.lent; run = (sym e.gives.answer, e.leaves.0, e.leaves.1, e.leaves.2, e.leaves.3, e.leaves.4) }

@@ -6,4 +6,4 @@ use Rattle.tables.proofs.tables.parties_in_order.Given as goal
 
 abbrev pub invariant-loop-party : goal.invariant-loop-party
 invariant-loop-party g l =
-    every (λ i. named l.tables.ring.faulty i || party_fits l.tables.ring.n (parties_of g.V.Value.bytes l.tables.ring.n l.tables.records.now l.tables.rows.now i)) (l.party - 1) ≡ true
+    every (λ i. named l.ring.faulty i || party_fits l.ring.n (parties_of g.V.Value.bytes l.ring.n l.records l.rows i)) (l.party - 1) ≡ true
