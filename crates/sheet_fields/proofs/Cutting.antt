@@ -1,5 +1,5 @@
 -- Facts about cuts.
-use Rattle.std.proofs.Common.{◌≡◌, ℕ, ◌+◌, ◌<◌, ◌≤◌, true, false, cond, ◌||◌, eqb, ltb, List, [], ◌∷◌, length, take, drop, Some, None, Option, refl, ap, ◌∙◌, add-one, arith}
+use Rattle.std.proofs.Common.{◌≡◌, ℕ, ◌+◌, ◌<◌, ◌≤◌, true, false, cond, ◌||◌, eqb, ltb, List, [], ◌∷◌, length, take, drop, Some, None, Option, MatchOption, sym, refl, ap, ◌∙◌, subst, add-one, arith}
 use Rattle.std.specs.List.{position_or_len}
 use Rattle.std.specs.Option.{unwrap_or}
 use Rattle.std.proofs.lemmas.List.Recursion.{is_position_or_len}
@@ -40,14 +40,24 @@ length_before-place stop bs =
     (λ x xs. elim (eqb x stop) as (λ v. length (cond v [] (x ∷ before stop xs)) ≡ cond v 0 (1 + length (before stop xs))) [ true ↦ refl | false ↦ omega arith ])
     bs
 
--- the place that a search for the first stop finds, or the length where there is none
+-- what a search for the first stop tells of a cut
+abbrev pub CutAt : ℕ → List ℕ → Option ℕ → Type 0
+CutAt stop bs r = MatchOption r (has stop bs ≡ false) (λ i. (has stop bs ≡ true) × (i ≡ length (before stop bs)))
+
+pub cut_at : (stop : ℕ) (bs : List ℕ) (r : Option ℕ) → r ≡ cond (ltb (position_or_len (λ b. eqb b stop) bs) (length bs)) (Some (position_or_len (λ b. eqb b stop) bs)) None → CutAt stop bs r
+cut_at stop bs r e =
+    let g : r ≡ cond (has stop bs) (Some (length (before stop bs))) None = e ∙ rw (← length_before-place stop bs, ← has-is stop bs) refl in
+    subst (CutAt stop bs) (sym g) (
+    elim (has stop bs) as (λ v. MatchOption (cond v (Some (length (before stop bs))) None) (v ≡ false) (λ i. (v ≡ true) × (i ≡ length (before stop bs))))
+    [ true ↦ (refl, refl) | false ↦ refl ]
+    )
+
+-- so the place that it finds, or the length where there is none, is the end of the text before the stop
 pub end_before : (stop : ℕ) (bs : List ℕ) (r : Option ℕ) (end : ℕ) →
     r ≡ cond (ltb (position_or_len (λ b. eqb b stop) bs) (length bs)) (Some (position_or_len (λ b. eqb b stop) bs)) None → end ≡ unwrap_or r (length bs) → end ≡ length (before stop bs)
 end_before stop bs r end e u =
-    let g : r ≡ cond (has stop bs) (Some (length (before stop bs))) None = e ∙ rw (← length_before-place stop bs, ← has-is stop bs) refl in
-    u ∙ (ap (λ x. unwrap_or x (length bs)) g ∙
-    (elim (has stop bs) as (λ v. has stop bs ≡ v → unwrap_or (cond v (Some (length (before stop bs))) None) (length bs) ≡ length (before stop bs))
-    [ true ↦ λ h. refl | false ↦ λ h. (let l = length_before stop bs in let k = has-is stop bs in grind (arith, nat_tests)) ] refl))
+    u ∙ elim r as (λ o. CutAt stop bs o → unwrap_or o (length bs) ≡ length (before stop bs))
+    [ Some i ↦ λ h. h.1 | None ↦ λ h. (let l = length_before stop bs in let k = has-is stop bs in grind (arith, nat_tests)) ] (cut_at stop bs r e)
 
 -- the pieces of a text with a stop: the text before it, and the pieces of the rest
 pub pieces_more : (stop : ℕ) (bs : List ℕ) → has stop bs ≡ true → pieces stop bs ≡ before stop bs ∷ pieces stop (after stop bs)
